@@ -1,4 +1,6 @@
 pub mod Faults
+pub mod Kept
 pub mod Kinds
+pub mod Lookup
 pub mod Units
 pub mod Values
