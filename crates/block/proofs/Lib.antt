@@ -1,2 +1,4 @@
 pub mod Clients
 pub mod Lookups
+pub mod Plains
+pub mod Seen
