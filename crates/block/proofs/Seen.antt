@@ -2,10 +2,10 @@
 use mathlib.Core.Path.{_≡_, refl, sym, ap, subst, _∙_}
 use mathlib.Core.Bool.{Bool, true, false, cond}
 use mathlib.Core.List.{List, [], _∷_}
-use Prim.Native.Nat.{ℕ, zero, suc, zero-le, suc-le-suc, _+_, _-_, _≤_, _<_}
+use Prim.Native.Nat.{ℕ, zero, suc, _+_, _≤_, _<_}
 use native.Mathlib.Omega.{arith}
 use native.Mathlib.Nat.{add-assoc}
-use lib.ListN.{length, getD, drop}
+use lib.ListN.{length, getD, take, drop}
 use lib.Seq.{getD-drop, drop-drop}
 use Rattle.block.specs.Units.{Unit-of, Meaning, Stretch, Run-of, unit-at, no-unit, visible, seen}
 
@@ -16,6 +16,13 @@ drop-visible [] (suc k) h = refl
 drop-visible (u ∷ us) (suc k) h =
     subst (λ (b : Bool). drop (suc k) (cond b (u ∷ seen us) (seen us)) ≡ seen (drop k us)) (sym (h 0 (omega arith)))
     (drop-visible us k (λ j l. h (suc j) (omega arith)))
+
+pub take-visible : (us : List Unit-of) (k : ℕ) → ((j : ℕ) → j < k → visible (getD us j no-unit) ≡ true) → take k (seen us) ≡ take k us
+take-visible us zero h = refl
+take-visible [] (suc k) h = refl
+take-visible (u ∷ us) (suc k) h =
+    subst (λ (b : Bool). take (suc k) (cond b (u ∷ seen us) (seen us)) ≡ u ∷ take k us) (sym (h 0 (omega arith)))
+    (ap (λ (xs : List Unit-of). u ∷ xs) (take-visible us k (λ j l. h (suc j) (omega arith))))
 
 -- the first k units are all hidden
 pub drop-hidden : (us : List Unit-of) (k : ℕ) → ((j : ℕ) → j < k → visible (getD us j no-unit) ≡ false) → seen us ≡ seen (drop k us)
@@ -41,6 +48,10 @@ module _ (m : Meaning) (t : Stretch) (run : Run-of m t) where
   run-drop rel k h v =
       drop-visible (drop (t .from + rel) (m .units (t .list))) k (λ j l. within-run rel k j h l ∙ v)
       ∙ ap seen (drop-drop k (t .from + rel) (m .units (t .list)) ∙ ap (λ (i : ℕ). drop i (m .units (t .list))) (add-assoc (t .from) rel k))
+
+  -- and these are they
+  pub run-take : (rel k : ℕ) → rel + k ≤ t .count → visible (unit-at m (t .list) (t .from)) ≡ true → take k (seen (drop (t .from + rel) (m .units (t .list)))) ≡ take k (drop (t .from + rel) (m .units (t .list)))
+  run-take rel k h v = take-visible (drop (t .from + rel) (m .units (t .list))) k (λ j l. within-run rel k j h l ∙ v)
 
   pub run-hidden : (rel k : ℕ) → rel + k ≤ t .count → visible (unit-at m (t .list) (t .from)) ≡ false → seen (drop (t .from + rel) (m .units (t .list))) ≡ seen (drop (t .from + (rel + k)) (m .units (t .list)))
   run-hidden rel k h v =

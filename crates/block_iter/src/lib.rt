@@ -1,0 +1,2 @@
+mod fill;
+mod walk;
