@@ -1,2 +1,3 @@
+pub mod block_iter;
 mod fill;
 mod walk;
