@@ -9,8 +9,9 @@ use lib.Seq.{take-add}
 use Rattle.std.specs.Iters.{folded}
 use Rattle.std.proofs.shelf.Tests.{cases-lt, lt-ltb, le-ltb, cond-true, cond-false}
 use Rattle.block.specs.declared.call.Call.{Call}
+use Rattle.block.specs.declared.call.Call.the-variants.{Skip, Read}
 use Rattle.block.specs.Units.{Unit-of}
-use Rattle.block.specs.Plain.{Plain, plain-start, plain-call, plain-run, refuse, accept, asked, shown-by, next-units}
+use Rattle.block.specs.Plain.{Plain, plain-start, plain-call, plain-run, refuse, accept, asked, filled, shown-by, next-units}
 
 -- a cursor has passed the first units, each once, as many as its index
 abbrev pub Passes : List Unit-of → Plain → Type 0
@@ -66,3 +67,25 @@ shown-so-far l vs cs i =
 
 pub length-next : (vs : List Unit-of) (i n : ℕ) → i + n ≤ length vs → length (next-units vs i n) ≡ n
 length-next vs i n h = simp (length-take, length-drop) (omega arith)
+
+-- a call in numbers
+pub filled-most : (c : Call) → filled c ≤ asked c
+filled-most (Skip n) = omega arith
+filled-most (Read n) = omega arith
+
+length-shown : (c : Call) (us : List Unit-of) → length us ≡ asked c → length (shown-by c us) ≡ filled c
+length-shown (Skip n) us h = refl
+length-shown (Read n) us h = h
+
+module _ (l : ℕ) (vs : List Unit-of) (s : Plain) (c : Call) where
+  pub counts-refused : length vs < s .index + asked c → (s .index ≡ plain-call l vs s c .index) × (length (s .shown) ≡ length (plain-call l vs s c .shown))
+  counts-refused h =
+      let e = call-refused l vs s c h in
+      (sym (ap (λ (x : Plain). x .index) e), sym (ap (λ (x : Plain). length (x .shown)) e))
+
+  pub counts-accepted : s .index + asked c ≤ length vs → (s .index + asked c ≡ plain-call l vs s c .index) × (length (s .shown) + filled c ≡ length (plain-call l vs s c .shown))
+  counts-accepted h =
+      let e = call-accepted l vs s c h in
+      let us = next-units vs (s .index) (asked c) in
+      let more : length (shown-by c us) ≡ filled c = length-shown c us (length-next vs (s .index) (asked c) h) in
+      (sym (ap (λ (x : Plain). x .index) e), omega (arith, length-append (s .shown) (shown-by c us), ap (λ (x : Plain). length (x .shown)) e))

@@ -34,6 +34,11 @@ abbrev pub asked : Call → ℕ
 asked (Skip n) = n
 asked (Read n) = n
 
+-- how many slots a call fills if it is accepted
+abbrev pub filled : Call → ℕ
+filled (Skip n) = 0
+filled (Read n) = n
+
 -- which of the units that a call passes it shows
 abbrev pub shown-by : Call → List Unit-of → List Unit-of
 shown-by (Skip n) us = []

@@ -28,6 +28,11 @@ put-front slots part used k n h f =
     subst (λ (i : ℕ). take (i + n) (take used slots ++ (part ++ rest)) ≡ take used slots ++ take n part) at
     (take-append-add (take used slots) (part ++ rest) n ∙ ap (λ (xs : List Slot). take used slots ++ xs) (take-append-le n part rest f))
 
+pub shows-both : (shown : Slot → Option (Kind × Worth)) (a b : List Slot) (us ws : List Unit-of) → Shows shown a us → Shows shown b ws → Shows shown (a ++ b) (us ++ ws)
+shows-both shown a b us ws x y =
+    let f : Unit-of → Option (Kind × Worth) = λ u. Some (facet u) in
+    map-append shown a b ∙ ap (λ (zs : List (Option (Kind × Worth))). zs ++ map shown b) x ∙ ap (λ (zs : List (Option (Kind × Worth))). map f us ++ zs) y ∙ sym (map-append f us ws)
+
 module _ {P : Type 0} (m : Meaning) (st : P → Option Stretch) (settled : (p : P) (t : Stretch) → st p ≡ Some t → Run-of m t) (shown : Slot → Option (Kind × Worth)) where
   module _ (p : P) (t : Stretch) (e : st p ≡ Some t) (v : visible (unit-at m (t .list) (t .from)) ≡ true) (rel : ℕ) (before after : List Slot) (n : ℕ) (reads : Reads m shown (st p) rel before after n) where
     pub many-read : n ≡ min (t .count - rel) (length before)
@@ -83,18 +88,13 @@ module _ {P : Type 0} (m : Meaning) (st : P → Option Stretch) (settled : (p : 
         let (t, e, q) = described-some m (st p) d desc in
         record { stepped = step-past m st settled p t e rel (length before) (seen-is false v t q) r (right .1 t e); values = λ l vs s. refl; rest = refl }
 
-  shows-both : (a b : List Slot) (us ws : List Unit-of) → Shows shown a us → Shows shown b ws → Shows shown (a ++ b) (us ++ ws)
-  shows-both a b us ws x y =
-      let f : Unit-of → Option (Kind × Worth) = λ u. Some (facet u) in
-      map-append shown a b ∙ ap (λ (zs : List (Option (Kind × Worth))). zs ++ map shown b) x ∙ ap (λ (zs : List (Option (Kind × Worth))). map f us ++ zs) y ∙ sym (map-append f us ws)
-
   -- one turn of a fill: used slots were filled before it, and n more by it
   pub fill-more : (slots before part : List Slot) (used k n : ℕ) (place : Option P) (p : P) (rel : ℕ) (q : Option P) (into : ℕ) → place ≡ Some p → Took m st shown p rel before part q into n → used ≤ length slots → length part ≡ length before → (l : ℕ) (vs : List Unit-of) → Shows shown (take used slots) (take used vs) × Sees m st l place rel (drop used vs) → Shows shown (take (used + n) (putMid used k slots part)) (take (used + n) vs) × Sees m st l q into (drop (used + n) vs)
   fill-more slots before part used k n place p rel q into e took h long l vs (f, w) =
       let here : Sees m st l (Some p) rel (drop used vs) = subst (λ (o : Option P). Sees m st l o rel (drop used vs)) e w in
       let few = took .stepped .fewer in
       let front : take (used + n) (putMid used k slots part) ≡ take used slots ++ take n part = put-front slots part used k n h (omega arith) in
-      let both : Shows shown (take used slots ++ take n part) (take used vs ++ take n (drop used vs)) = shows-both _ _ _ _ f (took .values l (drop used vs) here) in
+      let both : Shows shown (take used slots ++ take n part) (take used vs ++ take n (drop used vs)) = shows-both shown _ _ _ _ f (took .values l (drop used vs) here) in
       (ap (map shown) front ∙ both ∙ ap (map (λ u. Some (facet u))) (sym (take-add used n vs)), walk-more m st settled place p e rel (length before) q into n (took .stepped) l used (used + n) vs refl w)
 
   -- the end of a fill, where there were units enough

@@ -1,3 +1,4 @@
 pub mod Fills
 pub mod Moves
+pub mod Performs
 pub mod Steps

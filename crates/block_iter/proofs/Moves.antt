@@ -9,7 +9,7 @@ use lib.Dec.{ltb}
 use lib.ListN.{length, getD, take, drop, length-drop}
 use lib.Seq.{drop-drop}
 use Rattle.std.proofs.shelf.Lists.{drop-more}
-use Rattle.std.proofs.shelf.Tests.{cases-bool, le-ltb, ltb-false, cond-true, cond-false}
+use Rattle.std.proofs.shelf.Tests.{cases-bool, le-ltb, ltb-true, ltb-false, cond-true, cond-false}
 use Rattle.std.specs.declared.option.Option.{Option}
 use Rattle.std.specs.declared.option.Option.the-variants.{Some, None}
 use Rattle.std.specs.declared.result.Result.{Result}
@@ -66,6 +66,14 @@ allowed l vs i n e =
     elim (cases-bool (ltb (length vs) (i + n))) [
       | inl t ↦ (let no : _≡_ {A = Result (Unit {0}) Fault} (Ok tt) (Err (too-far l)) = e ∙ cond-true _ _ _ t in let z : _≡_ {A = ℕ} 0 1 = cc in absurd (omega arith))
       | inr f ↦ ltb-false _ _ f
+    ]
+
+-- a call that was refused
+pub denied : (l : ℕ) (vs : List Unit-of) (i n : ℕ) (e : Fault) → Err e ≡ answer l vs i n → (length vs < i + n) × (e ≡ too-far l)
+denied l vs i n e r =
+    elim (cases-bool (ltb (length vs) (i + n))) [
+      | inl t ↦ (let same : _≡_ {A = Result (Unit {0}) Fault} (Err e) (Err (too-far l)) = r ∙ cond-true _ _ _ t in (ltb-true _ _ t, cc))
+      | inr f ↦ (let no : _≡_ {A = Result (Unit {0}) Fault} (Err e) (Ok tt) = r ∙ cond-false _ _ _ f in let z : _≡_ {A = ℕ} 0 1 = cc in absurd (omega arith))
     ]
 
 -- one slot that shows the next unit

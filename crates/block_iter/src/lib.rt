@@ -1,3 +1,4 @@
 pub mod block_iter;
 mod fill;
+pub mod replay;
 mod walk;
