@@ -42,7 +42,7 @@ module _ (l : ℕ) (vs : List Unit-of) where
   pub run-passes : (cs : List Call) → Passes vs (plain-run l vs cs)
   run-passes cs = all-pass plain-start cs (omega arith, refl)
 
-  shows-more : (s : Plain) (c : Call) → length (s .shown) ≤ length (plain-call l vs s c .shown)
+  pub shows-more : (s : Plain) (c : Call) → length (s .shown) ≤ length (plain-call l vs s c .shown)
   shows-more s c =
       elim (cases-lt (length vs) (s .index + asked c)) [
         | inl h ↦ (let e = ap (λ (x : Plain). length (x .shown)) (call-refused s c h) in omega arith)

@@ -16,7 +16,7 @@ use Rattle.block.specs.declared.call.Outcome.the-variants as outcomes
 use Rattle.block.specs.declared.fault.Fault.{Fault}
 use Rattle.block.specs.declared.kind.Kind.{Kind}
 use Rattle.block.specs.declared.slot.Slot.{Slot}
-use Rattle.block.specs.Units.{Meaning, Unit-of, Worth, seen}
+use Rattle.block.specs.Units.{Meaning, Stretch, Unit-of, Worth, seen}
 use Rattle.block.specs.Plain.{Plain, plain-call, plain-run}
 use Rattle.reader.specs.Answers.{no-list}
 use Rattle.block_iter.specs.declared.block_iter.BlockIter.{BlockIter}
@@ -24,7 +24,7 @@ use Rattle.block_iter.specs.declared.replay.Replayed.{Replayed}
 use Rattle.block_iter.specs.declared.replay.Refusal.{Refusal}
 use Rattle.block_iter.specs.declared.replay.Refusal.the-variants.{Refused, FewOutcomes, FewSlots}
 use Rattle.block_iter.specs.Walks.{Shows}
-use Rattle.block_iter.specs.Cursors.{visible-of}
+use Rattle.block_iter.specs.Cursors.{Sound, visible-of}
 
 abbrev pub outcome-of : Result (Unit {0}) Fault → Outcome
 outcome-of (Ok x) = outcomes.Done
@@ -47,6 +47,13 @@ abbrev pub Room : {R P : Type 0} → (R → Meaning) → BlockIter R P → Call 
 Room meaning c (Skip n) used room = Unit {0}
 Room meaning c (Read n) used room = (used ≤ room) × (c .index + n ≤ length (visible-of meaning c) → used + n ≤ room)
 
+-- a fresh cursor, with room for the outcomes of all calls and for what they read
+pub record Ready {R P : Type 0} (meaning : R → Meaning) (stretch : R → P → Option Stretch) (c : BlockIter R P) (calls : List Call) (outs room : ℕ) : Type 0 where
+  pub sound : Sound meaning stretch c
+  pub fresh : c .index ≡ 0
+  pub each : length calls ≤ outs
+  pub enough : length (plain-run (c .list) (visible-of meaning c) calls .shown) ≤ room
+
 -- one call goes as the plain cursor's
 abbrev pub Performed : {R P : Type 0} → (R → Meaning) → (R → Slot → Option (Kind × Worth)) → BlockIter R P → Call → List Slot → ℕ → Outcome × ℕ → BlockIter R P → List Slot → Type 0
 Performed meaning shown c call slots used r d after =
@@ -54,25 +61,27 @@ Performed meaning shown c call slots used r d after =
     (plain-call (c .list) (visible-of meaning c) s call .outcomes ≡ s .outcomes ++ (r .0 ∷ [])) × Matches shown (plain-call (c .list) (visible-of meaning c) s call) d after (r .1)
 
 -- what all calls leave: the plain cursor's outcomes, index and shown units; it has passed the first visible units,
--- each once, as many as its index; outcomes and slots that were not used stay
-pub record Played (vs : List Unit-of) (l : ℕ) (shown : Slot → Option (Kind × Worth)) (calls : List Call) (outs outs-after : List Outcome) (slots slots-after : List Slot) (p : Replayed) : Type 0 where
+-- each once, as many as its index `at`; outcomes and slots that were not used stay
+pub record Played (vs : List Unit-of) (l : ℕ) (shown : Slot → Option (Kind × Worth)) (calls : List Call) (outs outs-after : List Outcome) (slots slots-after : List Slot) (at used : ℕ) : Type 0 where
   pub outcomes : take (length calls) outs-after ≡ plain-run l vs calls .outcomes
-  pub index : p .index ≡ plain-run l vs calls .index
-  pub passed : plain-run l vs calls .passed ≡ take (p .index) vs
-  pub used : p .used ≡ length (plain-run l vs calls .shown)
-  pub values : Shows shown (take (p .used) slots-after) (plain-run l vs calls .shown)
+  pub index : at ≡ plain-run l vs calls .index
+  pub passed : plain-run l vs calls .passed ≡ take at vs
+  pub many : used ≡ length (plain-run l vs calls .shown)
+  pub values : Shows shown (take used slots-after) (plain-run l vs calls .shown)
   pub other-outcomes : drop (length calls) outs-after ≡ drop (length calls) outs
-  pub other-slots : drop (p .used) slots-after ≡ drop (p .used) slots
+  pub other-slots : drop used slots-after ≡ drop used slots
+
+-- the buffer that is too small for these calls, if one is, with the places that they need
+abbrev pub too-small : ℕ → List Unit-of → List Call → ℕ → ℕ → Option Refusal
+too-small l vs calls outs room =
+    cond (ltb outs (length calls)) (Some (FewOutcomes (length calls)))
+    (cond (ltb room (length (plain-run l vs calls .shown))) (Some (FewSlots (length (plain-run l vs calls .shown)))) None)
 
 -- why no call is made, if so: the list is not there, or a buffer is too small
 abbrev pub refusal : Meaning → ℕ → ℕ → List Call → ℕ → ℕ → Option Refusal
-refusal m layers l calls outs room =
-    cond (ltb l (m .lists))
-    (cond (ltb outs (length calls)) (Some (FewOutcomes (length calls)))
-    (cond (ltb room (length (plain-run l (seen (m .units l)) calls .shown))) (Some (FewSlots (length (plain-run l (seen (m .units l)) calls .shown)))) None))
-    (Some (Refused (no-list layers l)))
+refusal m layers l calls outs room = cond (ltb l (m .lists)) (too-small l (seen (m .units l)) calls outs room) (Some (Refused (no-list layers l)))
 
 -- what a replay answers: refused before the first call, and then nothing changes; or all calls were made
 abbrev pub Replays : Meaning → (Slot → Option (Kind × Worth)) → ℕ → ℕ → List Call → List Outcome → List Outcome → List Slot → List Slot → Result Replayed Refusal → Type 0
-Replays m shown layers l calls outs outs-after slots slots-after (Ok p) = (refusal m layers l calls (length outs) (length slots) ≡ None) × Played (seen (m .units l)) l shown calls outs outs-after slots slots-after p
+Replays m shown layers l calls outs outs-after slots slots-after (Ok p) = (refusal m layers l calls (length outs) (length slots) ≡ None) × Played (seen (m .units l)) l shown calls outs outs-after slots slots-after (p .index) (p .used)
 Replays m shown layers l calls outs outs-after slots slots-after (Err e) = (refusal m layers l calls (length outs) (length slots) ≡ Some e) × (outs-after ≡ outs) × (slots-after ≡ slots)

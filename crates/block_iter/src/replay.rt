@@ -5,7 +5,7 @@ ghost use lib.ListN.{length, drop};
 ghost use Rattle.block.specs.Units.{Unit-of};
 ghost use Rattle.block.specs.Plain.{plain-run};
 ghost use Rattle.block_iter.specs.Cursors.{Sound, Same, visible-of};
-ghost use Rattle.block_iter.specs.Replays.{Room, Counts, Performed, Played, Replays, outcome-of};
+ghost use Rattle.block_iter.specs.Replays.{Room, Ready, Counts, Performed, Played, Replays, outcome-of, too-small};
 use crate::block_iter::BlockIter;
 use block::call::Call;
 use block::call::Outcome;
@@ -91,5 +91,67 @@ fn perform<R: Reader>(
                 (o, end)
             }
         },
+    }
+}
+
+// Makes the calls one after the other, and says how many slots they filled.
+fn perform_all<R: Reader>(
+    cursor: &mut BlockIter<R>,
+    calls: &[Call],
+    outcomes: &mut [Outcome],
+    slots: &mut [Slot],
+) -> usize
+    requires ready { ⌜ Ready (R·Reader .meaning) (R·Reader .stretch) (now cursor) (now calls) (length (now outcomes)) (length (now slots)) ⌝ }
+    ensures same { λ _. ⌜ Same (now (cursor .entry)) (now (cursor .exit)) ⌝ }
+    ensures played { λ r. ⌜ Played (visible-of (R·Reader .meaning) (now (cursor .entry))) (now (cursor .entry) .list) (R·Reader .shown (now (cursor .entry) .reader)) (now (calls .entry)) (now (outcomes .entry)) (now (outcomes .exit)) (now (slots .entry)) (now (slots .exit)) (now (cursor .exit) .index) r ⌝ }
+{
+    let mut used = 0;
+    for (i, call) in calls.iter().enumerate() {
+        let (o, end) = perform(cursor, *call, slots, used);
+        outcomes[i] = o;
+        used = end;
+    }
+    used
+}
+
+// Why a replay cannot begin, if so: a buffer with fewer places than the calls need.
+fn too_small(len: u32, calls: &[Call], outcomes: usize, slots: usize) -> Option<Refusal>
+    ensures { λ r. ⌜ ((l : ℕ) (vs : List Unit-of) → len ≡ length vs → r ≡ too-small l vs (now (calls .entry)) outcomes slots) ⌝ }
+{
+    if outcomes < calls.len() {
+        return Some(Refusal::FewOutcomes { needed: calls.len() });
+    }
+    let needed = slots_needed(len, calls) as usize;
+    if slots < needed {
+        return Some(Refusal::FewSlots { needed });
+    }
+    None
+}
+
+// Opens a cursor, makes the calls one after the other, refused ones too, and closes it. Where the list
+// is not there or a buffer is too small, no call is made and nothing changes.
+pub fn replay<R: Reader>(
+    reader: R,
+    list: u32,
+    calls: &[Call],
+    outcomes: &mut [Outcome],
+    slots: &mut [Slot],
+) -> (R, Result<Replayed, Refusal>)
+    ensures back { λ r. ⌜ r .0 ≡ reader ⌝ }
+    ensures answer { λ r. ⌜ Replays (R·Reader .meaning reader) (R·Reader .shown reader) (R·Reader .layers reader) list (now (calls .entry)) (now (outcomes .entry)) (now (outcomes .exit)) (now (slots .entry)) (now (slots .exit)) (r .1) ⌝ }
+{
+    match BlockIter::open(reader, list) {
+        Err((back, fault)) => (back, Err(Refusal::Refused(fault))),
+        Ok(opened) => {
+            let mut cursor = opened;
+            match too_small(cursor.len(), calls, outcomes.len(), slots.len()) {
+                Some(refusal) => (cursor.close(), Err(refusal)),
+                None => {
+                    let used = perform_all(&mut cursor, calls, outcomes, slots);
+                    let index = cursor.index();
+                    (cursor.close(), Ok(Replayed { index, used }))
+                }
+            }
+        }
     }
 }
