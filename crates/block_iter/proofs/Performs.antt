@@ -97,8 +97,8 @@ module _ {R P : Type 0} (meaning : R → Meaning) (stretch : R → P → Option 
         subst (λ (x : Call). Performed meaning shown c x slots used (o, used + n) d (putMid used k slots part)) (sym call-is)
         (accepted (Read n) slots (putMid used k slots part) used (used + n) o fits (o-is ∙ ap outcome-of ok) same there
         (λ s match.
-            let at = match .index in
-            let many = match .many in
-            let got : length (next-units vs (s .index) n) ≡ n = length-next vs (s .index) n (omega arith) in
-            let both : Shows (shown (c .reader)) (take used slots ++ part) (s .shown ++ next-units vs (s .index) n) = shows-both (shown (c .reader)) _ _ _ _ (match .values) (subst (λ (i : ℕ). Shows (shown (c .reader)) part (next-units vs i n)) at next) in
-            (omega (arith, length-append (s .shown) (next-units vs (s .index) n)), subst (λ (xs : List Slot). Shows (shown (c .reader)) xs (s .shown ++ next-units vs (s .index) n)) (sym front) both)))
+        let at = match .index in
+        let many = match .many in
+        let got : length (next-units vs (s .index) n) ≡ n = length-next vs (s .index) n (omega arith) in
+        let both : Shows (shown (c .reader)) (take used slots ++ part) (s .shown ++ next-units vs (s .index) n) = shows-both (shown (c .reader)) _ _ _ _ (match .values) (subst (λ (i : ℕ). Shows (shown (c .reader)) part (next-units vs i n)) at next) in
+        (omega (arith, length-append (s .shown) (next-units vs (s .index) n)), subst (λ (xs : List Slot). Shows (shown (c .reader)) xs (s .shown ++ next-units vs (s .index) n)) (sym front) both)))

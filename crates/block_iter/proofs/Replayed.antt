@@ -134,6 +134,6 @@ module _ {R P : Type 0} (meaning : R → Meaning) (shown : R → Slot → Option
   replays-all outs-after slots-after p is played = (
     sym (is ∙ refusal-is),
     subst (λ (x : R). Played (seen (meaning r .units l)) l (shown x) calls outs outs-after slots slots-after (p .index) (p .used)) reader
-    (subst (λ (k : ℕ). Played (seen (meaning r .units l)) k (shown (c .reader)) calls outs outs-after slots slots-after (p .index) (p .used)) list
-    (subst (λ (vs : List Unit-of). Played vs (c .list) (shown (c .reader)) calls outs outs-after slots slots-after (p .index) (p .used)) visible-is played)),
+        (subst (λ (k : ℕ). Played (seen (meaning r .units l)) k (shown (c .reader)) calls outs outs-after slots slots-after (p .index) (p .used)) list
+        (subst (λ (vs : List Unit-of). Played vs (c .list) (shown (c .reader)) calls outs outs-after slots slots-after (p .index) (p .used)) visible-is played)),
   )

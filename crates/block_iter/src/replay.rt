@@ -119,7 +119,9 @@ fn too_small(len: u32, calls: &[Call], outcomes: usize, slots: usize) -> Option<
     ensures { λ r. ⌜ ((l : ℕ) (vs : List Unit-of) → len ≡ length vs → r ≡ too-small l vs (now (calls .entry)) outcomes slots) ⌝ }
 {
     if outcomes < calls.len() {
-        return Some(Refusal::FewOutcomes { needed: calls.len() });
+        return Some(Refusal::FewOutcomes {
+            needed: calls.len(),
+        });
     }
     let needed = slots_needed(len, calls) as usize;
     if slots < needed {

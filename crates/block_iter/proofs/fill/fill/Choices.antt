@@ -9,7 +9,7 @@ abbrev pub Inv-loop-used : given.InvT-loop-used
 Inv-loop-used g l =
     (l .used ≤ length (l .slots))
     × ((k : ℕ) (vs : List Unit-of) → Sees (g .R·Reader .meaning (l .reader)) (g .R·Reader .stretch (l .reader)) k (l .entry .place) (l .entry .rel) vs →
-        Shows (g .R·Reader .shown (l .reader)) (take (l .used) (l .slots)) (take (l .used) vs) × Sees (g .R·Reader .meaning (l .reader)) (g .R·Reader .stretch (l .reader)) k (l .place) (l .rel) (drop (l .used) vs))
+    Shows (g .R·Reader .shown (l .reader)) (take (l .used) (l .slots)) (take (l .used) vs) × Sees (g .R·Reader .meaning (l .reader)) (g .R·Reader .stretch (l .reader)) k (l .place) (l .rel) (drop (l .used) vs))
 
 abbrev pub μ-loop-used : given.MeasureT-loop-used
 μ-loop-used g l = to-go (g .R·Reader .meaning (l .reader)) (g .R·Reader .stretch (l .reader)) (l .place) + (length (l .entry .slots) - l .used)

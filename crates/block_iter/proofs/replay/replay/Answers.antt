@@ -28,5 +28,5 @@ returns-in-None g c =
     record {
       back = c .close-in-None .ensures ∙ done .same .reader ∙ reader;
       answer = replays-all (g .R·Reader .meaning) (g .R·Reader .shown) (g .R·Reader .layers) b (c .args .reader) (c .args .list) reader list there (c .args .calls .now) (c .args .outcomes .now) (c .args .slots .now) _ _ _ (c .in-None .ensures tt _ _ (c .len .ensures ∙ sound .counted))
-      (subst (λ (i : ℕ). Played (visible-of (g .R·Reader .meaning) b) (b .list) (g .R·Reader .shown (b .reader)) (c .args .calls .now) (c .args .outcomes .now) (c .perform-all-used .last .outcomes) (c .args .slots .now) (c .perform-all-used .last .slots) i (c .perform-all-used .result)) at (done .played));
+          (subst (λ (i : ℕ). Played (visible-of (g .R·Reader .meaning) b) (b .list) (g .R·Reader .shown (b .reader)) (c .args .calls .now) (c .args .outcomes .now) (c .perform-all-used .last .outcomes) (c .args .slots .now) (c .perform-all-used .last .slots) i (c .perform-all-used .result)) at (done .played));
     }
