@@ -1,8 +1,9 @@
 -- Where a document has the unit with an id.
 use Prim.Native.Nat.{ℕ, zero, suc}
-use mathlib.Core.Bool.{Bool, true, false, cond, _&&_}
+use mathlib.Core.Bool.{Bool, true, false, cond, not, _&&_}
 use mathlib.Core.List.{List, [], _∷_}
 use lib.Dec.{eqb}
+use Rattle.std.specs.Options.{isSome}
 use Rattle.std.specs.declared.option.Option.{Option}
 use Rattle.std.specs.declared.option.Option.the-variants.{Some, None}
 use Rattle.block.specs.declared.ids.Id.{Id}
@@ -49,5 +50,14 @@ held-up m None = true
 held-up m (Some h) = live-at m (where-is m h)
 
 -- the list is a root, or its holder is a listed unit that lives
+abbrev pub upheld : Meaning → ℕ → Bool
+upheld m l = held-up m (m .holder l)
+
+-- there is no holder, or it has no successor
+abbrev pub not-redone : Meaning → Option Id → Bool
+not-redone m None = true
+not-redone m (Some h) = not (isSome (redone-of m h))
+
+-- the list is upheld, and its holder has no successor
 abbrev pub standing : Meaning → ℕ → Bool
-standing m l = held-up m (m .holder l)
+standing m l = upheld m l && not-redone m (m .holder l)

@@ -1,0 +1,9 @@
+pub mod Counts
+pub mod Finding
+pub mod Joining
+pub mod Measures
+pub mod Nearing
+pub mod Piles
+pub mod Reading
+pub mod Saying
+pub mod Walking

@@ -1,0 +1,7 @@
+pub mod Clipped
+pub mod ClippedFacts
+pub mod Joined
+pub mod Made
+pub mod Pairing
+pub mod RunFacts
+pub mod Walks

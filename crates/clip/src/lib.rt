@@ -1,0 +1,9 @@
+pub mod clip;
+pub mod count;
+pub mod join;
+pub mod limit;
+pub mod made;
+pub mod pair;
+pub mod pairs;
+pub mod reader;
+pub mod walk;

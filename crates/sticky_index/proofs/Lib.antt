@@ -1,0 +1,5 @@
+pub mod Counts
+pub mod Finds
+pub mod Holders
+pub mod Promises
+pub mod Walks

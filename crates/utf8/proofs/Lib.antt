@@ -1,0 +1,9 @@
+pub mod Fronts
+pub mod Tables
+pub mod Follows
+pub mod Heads
+pub mod Spellings
+pub mod Steps
+pub mod Lengths
+pub mod Laws
+pub mod Encodings
