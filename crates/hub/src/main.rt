@@ -8,7 +8,11 @@ fn print_kinds(rt: &impl Print) -> io::Result<()> {
     for number in 0..=10u8 {
         if let Some(kind) = Kind::from_number(number) {
             let name = kind.name();
-            let counted = if kind.is_countable() { "counted" } else { "not counted" };
+            let counted = if kind.is_countable() {
+                "counted"
+            } else {
+                "not counted"
+            };
             println!(rt, "  {number:>2}  {name:<10}  {counted}")?;
         }
     }
