@@ -1,22 +1,18 @@
 -- What a clip finds.
-use Prim.Native.Nat.{ℕ, _+_, _-_, _≤_, _<_, min}
-use mathlib.Core.Path.{_≡_, refl, sym, ap, subst, _∙_}
-use mathlib.Core.Bool.{Bool, true, false}
+use Prim.Native.Nat.{ℕ, _≤_, _<_}
+use mathlib.Core.Path.{_≡_, sym, ap, subst, _∙_}
 use native.Mathlib.Omega.{arith}
-use lib.ListN.{length, getD}
-use Rattle.std.specs.shelf.Lists.{kept-by}
-use Rattle.std.proofs.shelf.Tests.{ltb-true, lt-ltb}
+use lib.ListN.{length}
 use Rattle.std.specs.declared.option.Option.{Option}
 use Rattle.std.specs.declared.option.Option.the-variants.{Some, None}
 use Rattle.block.specs.declared.ids.Id.{Id}
-use Rattle.block.specs.Units.{Meaning, Stretch, Unit-of, Lawful, Run-of, unit-at, no-unit, visible}
+use Rattle.block.specs.Units.{Meaning, Stretch, unit-at}
 use Rattle.reader.specs.Answers.{Found}
-use Rattle.clip.specs.Clipped.{shown-by, clipped, place-of, shown-part, moved, cut}
-use Rattle.block.specs.Kept.{kept-at, kept-from, spot-same, kept-twice, kept-fewer}
+use Rattle.clip.specs.Clipped.{clipped, shown-part, moved, cut}
 use Rattle.clip.specs.RunFacts.{Runs-of, moved-at, cut-some}
 use Rattle.clip.specs.ClippedFacts.{unit-from}
 
-module _ {P : Type 0} (limit : ℕ → ℕ) (m : Meaning) (st : P → Option Stretch) (runs : Runs-of m st) where
+module _ (limit : ℕ → ℕ) (m : Meaning) where
   pub found-hidden : (id : Id) → limit (id .client) ≤ id .clock → (l i : ℕ) → i < length (clipped limit m .units l) → unit-at (clipped limit m) l i .id ≡ id → ⊥
   found-hidden id h l i lt e =
       let a = unit-from limit m l i lt in
@@ -24,6 +20,7 @@ module _ {P : Type 0} (limit : ℕ → ℕ) (m : Meaning) (st : P → Option Str
       let s = subst (λ (x : Id). x .clock < limit (x .client)) q (a .2) in
       omega arith
 
+module _ {P : Type 0} (limit : ℕ → ℕ) (m : Meaning) (st : P → Option Stretch) (runs : Runs-of m st) where
   pub found-shown : (id : Id) (r : Option (P × ℕ)) → Found m st id r → id .clock < limit (id .client) → Found (clipped limit m) (λ p. cut limit m (st p)) id r
   found-shown id None f h = λ l i lt e. let a = unit-from limit m l i lt in f l (a .0) (a .1) (sym (ap (λ x. x .id) (a .4)) ∙ e)
   found-shown id (Some r) f h =

@@ -1,7 +1,7 @@
 -- What joined pairs say of each client, and that they are sound.
 use Prim.Native.Nat.{ℕ, _+_, _^_, _≤_, _<_, min}
 use mathlib.Core.Path.{_≡_, refl, sym, ap, fun-ext, _∙_}
-use mathlib.Core.Bool.{Bool, true, false, cond, _&&_, not}
+use mathlib.Core.Bool.{true, false, cond}
 use mathlib.Core.List.{List, [], _∷_, _++_, append-assoc}
 use mathlib.Core.Logic.{inl, inr}
 use native.Mathlib.Omega.{arith}
@@ -9,7 +9,6 @@ use lib.Dec.{eqb, ltb}
 use lib.ListN.{length, getD, set, take, drop}
 use Rattle.std.proofs.shelf.Lists.{at-drop-more, at-drop-all, length-set, take-more-set, append-nil}
 use Rattle.std.proofs.shelf.Tests.{cases-bool, cond-true, cond-false, eqb-true, ltb-true, lt-ltb, and-parts, and-from, not-true, not-from-false, both-ways}
-use Rattle.block.specs.Units.{Meaning}
 use Rattle.clip.specs.declared.pair.Pair.{Pair}
 use Rattle.clip.specs.declared.pairs.Pairs.{Pairs}
 use Rattle.clip.specs.Clipped.{clipped}

@@ -6,4 +6,5 @@ pub mod Nearing
 pub mod Piles
 pub mod Reading
 pub mod Saying
+pub mod Standing
 pub mod Walking

@@ -9,8 +9,8 @@ use lib.Dec.{ltb}
 use Rattle.std.specs.shelf.Lists.{kept-by}
 use Rattle.std.proofs.shelf.Tests.{cases-lt, lt-ltb, le-ltb, and-from, and-left, and-right}
 use Rattle.block.specs.Kept.{kept-twice}
-use Rattle.block.specs.Units.{Meaning, Unit-of}
-use Rattle.clip.specs.Clipped.{shown-by, clipped}
+use Rattle.block.specs.Units.{Unit-of}
+use Rattle.clip.specs.Clipped.{shown-by}
 use Rattle.clip.specs.Joined.{One-clip, lesser}
 
 -- below both is below the lesser

@@ -1,21 +1,15 @@
 -- What a clip says of a run.
-use Prim.Native.Nat.{ℕ, zero, suc, _+_, _-_, _≤_, _<_, min}
-use mathlib.Core.Path.{_≡_, refl, sym, ap, subst, _∙_}
-use mathlib.Core.Bool.{Bool, true, false, cond}
-use mathlib.Core.List.{List, [], _∷_}
-use mathlib.Core.Logic.{_⊎_, inl, inr}
+use Prim.Native.Nat.{ℕ, _-_, _≤_, _<_, min}
+use mathlib.Core.Path.{_≡_, refl, sym, ap, subst}
+use mathlib.Core.Bool.{cond}
 use native.Mathlib.Omega.{arith}
-use native.Mathlib.Nat.{add-zero}
-use lib.Dec.{ltb}
-use lib.ListN.{length, getD, take}
-use Rattle.std.specs.shelf.Lists.{kept-by}
-use Rattle.std.proofs.shelf.Tests.{lt-ltb, le-ltb, ltb-true, ltb-false, cases-lt}
+use Rattle.std.proofs.shelf.Tests.{lt-ltb, le-ltb}
 use Rattle.std.specs.declared.option.Option.{Option}
 use Rattle.std.specs.declared.option.Option.the-variants.{Some, None}
-use Rattle.block.specs.Units.{Meaning, Stretch, Unit-of, Lawful, Run-of, unit-at, no-unit}
+use Rattle.block.specs.Units.{Meaning, Stretch, Unit-of, Run-of, unit-at}
 use Rattle.reader.specs.Answers.{Described, described}
 use Rattle.reader.specs.declared.reader.Description.{Description}
-use Rattle.clip.specs.Clipped.{shown-by, clipped, place-of, shown-part, moved, cut}
+use Rattle.clip.specs.Clipped.{clipped, shown-part, moved, cut}
 use Rattle.clip.specs.RunFacts.{first-at}
 
 abbrev pub shorter : (ℕ → ℕ) → Description → Description

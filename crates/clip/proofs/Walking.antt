@@ -1,17 +1,17 @@
 -- A walk below and the walk of the clip.
-use Prim.Native.Nat.{ℕ, zero, suc, _+_, _-_, _≤_, _<_}
+use Prim.Native.Nat.{ℕ, suc, _+_, _-_, _<_}
 use mathlib.Core.Path.{_≡_, refl, sym, ap, subst, _∙_}
-use mathlib.Core.Bool.{Bool, true, false}
-use mathlib.Core.Logic.{_⊎_, inl, inr}
+use mathlib.Core.Bool.{true, false}
+use mathlib.Core.Logic.{inl, inr}
 use native.Mathlib.Omega.{arith}
 use lib.ListN.{length}
 use Rattle.std.specs.Options.{isSome}
 use Rattle.std.proofs.shelf.Tests.{cases-lt}
 use Rattle.std.specs.declared.option.Option.{Option}
 use Rattle.std.specs.declared.option.Option.the-variants.{Some, None}
-use Rattle.block.specs.Units.{Meaning, Stretch, Run-of}
+use Rattle.block.specs.Units.{Meaning, Stretch}
 use Rattle.reader.specs.Answers.{Begins, Ends, Onward, Backward, Right, Left}
-use Rattle.clip.specs.Clipped.{shown-by, clipped, place-of, shown-part, moved, cut}
+use Rattle.clip.specs.Clipped.{shown-by, clipped, place-of, shown-part, cut}
 use Rattle.clip.specs.Walks.{Skips, Skips-back}
 use Rattle.clip.proofs.Measures.{to-go, gone, ahead, behind}
 use Rattle.block.specs.Kept.{spot-all}

@@ -1,17 +1,15 @@
 -- What a clip shows is a document: its laws, its runs, its places.
-use Prim.Native.Nat.{ℕ, _+_, _-_, _≤_, _<_, min}
-use mathlib.Core.Path.{_≡_, refl, sym, ap, subst, _∙_}
-use mathlib.Core.Bool.{Bool, true, false}
+use Prim.Native.Nat.{ℕ, _+_, _≤_, _<_, min}
+use mathlib.Core.Path.{_≡_, sym, ap, subst, _∙_}
+use mathlib.Core.Bool.{true}
 use native.Mathlib.Omega.{arith}
-use lib.ListN.{length, getD}
+use lib.ListN.{length}
 use Rattle.std.specs.shelf.Lists.{kept-by}
 use Rattle.std.proofs.shelf.Tests.{ltb-true, lt-ltb}
 use Rattle.std.specs.declared.option.Option.{Option}
-use Rattle.std.specs.declared.option.Option.the-variants.{Some, None}
-use Rattle.block.specs.declared.ids.Id.{Id}
+use Rattle.std.specs.declared.option.Option.the-variants.{Some}
 use Rattle.block.specs.Units.{Meaning, Stretch, Unit-of, Lawful, Run-of, unit-at, no-unit, visible}
-use Rattle.reader.specs.Answers.{Found}
-use Rattle.clip.specs.Clipped.{shown-by, clipped, place-of, shown-part, moved, cut}
+use Rattle.clip.specs.Clipped.{shown-by, clipped, place-of, cut}
 use Rattle.block.specs.Kept.{kept-at, kept-from, spot-same, kept-twice, kept-fewer}
 use Rattle.clip.specs.RunFacts.{Runs-of, moved-run, cut-from}
 

@@ -1,5 +1,6 @@
 pub mod Clipped
 pub mod ClippedFacts
+pub mod Holders
 pub mod Joined
 pub mod Made
 pub mod Pairing

@@ -1,22 +1,17 @@
 -- What a clip does to runs.
-use Prim.Native.Nat.{ℕ, zero, suc, _+_, _-_, _≤_, _<_, min}
+use Prim.Native.Nat.{ℕ, _+_, _-_, _≤_, _<_}
 use mathlib.Core.Path.{_≡_, refl, sym, ap, subst, _∙_}
-use mathlib.Core.Bool.{Bool, true, false, cond}
-use mathlib.Core.List.{List, [], _∷_}
-use mathlib.Core.Logic.{_⊎_, inl, inr}
+use mathlib.Core.Bool.{true, false, cond}
+use mathlib.Core.Logic.{inl, inr}
 use native.Mathlib.Omega.{arith}
-use native.Mathlib.Nat.{add-zero}
 use lib.Dec.{ltb}
-use lib.ListN.{length, getD, take}
-use Rattle.std.specs.shelf.Lists.{kept-by}
-use Rattle.std.proofs.shelf.Tests.{lt-ltb, le-ltb, ltb-true, ltb-false, cases-lt}
+use lib.ListN.{length}
+use Rattle.std.proofs.shelf.Tests.{lt-ltb, le-ltb, cases-lt}
 use Rattle.std.specs.declared.option.Option.{Option}
 use Rattle.std.specs.declared.option.Option.the-variants.{Some, None}
-use Rattle.block.specs.Units.{Meaning, Stretch, Unit-of, Lawful, Run-of, unit-at, no-unit}
-use Rattle.reader.specs.Answers.{Described, described}
-use Rattle.reader.specs.declared.reader.Description.{Description}
+use Rattle.block.specs.Units.{Meaning, Stretch, Run-of, unit-at, no-unit}
 use Rattle.clip.specs.Clipped.{shown-by, clipped, place-of, shown-part, moved, cut}
-use Rattle.block.specs.Kept.{spot, spot-mono, kept-at, spot-below, kept-from, spot-same, spot-all, spot-kept, spot-dropped}
+use Rattle.block.specs.Kept.{spot-mono, kept-at, spot-all, spot-kept, spot-dropped}
 
 -- each place covers a run, or nothing
 abbrev pub Runs-of : {P : Type 0} → Meaning → (P → Option Stretch) → Type 0

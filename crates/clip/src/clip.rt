@@ -2,6 +2,7 @@ ghost use mathlib.Core.Path.{_≡_};
 ghost use Rattle.std.specs.Options.{isSome};
 ghost use Rattle.reader.specs.Answers.{Described};
 ghost use Rattle.clip.specs.Clipped.{clipped, cut, left-of, raise};
+ghost use Rattle.clip.specs.Holders.{Hidden-is-dead};
 ghost use Rattle.clip.specs.Made.{limit-of};
 use crate::pairs::Pairs;
 use block::fault::Fault;
@@ -16,9 +17,11 @@ pub struct Clip<R> {
 }
 
 impl Pairs {
-    // A clip of these pairs over a reader.
+    // A clip of these pairs over a reader. A holder that it hides counts as dead.
     pub fn over<R>(self, below: R) -> Clip<R>
-        ensures { λ r. ⌜ r .below ≡ below ⌝ ∗ ⌜ r .pairs ≡ self ⌝ }
+        ensures below { λ r. ⌜ r .below ≡ below ⌝ }
+        ensures pairs { λ r. ⌜ r .pairs ≡ self ⌝ }
+        ensures holders { λ _. ⌜ Hidden-is-dead ⌝ }
     {
         Clip { below, pairs: self }
     }

@@ -1,6 +1,8 @@
 ghost use Prim.Native.Nat.{ℕ, _+_, _^_, _<_};
 ghost use mathlib.Core.Path.{_≡_};
+ghost use mathlib.Core.Bool.{_&&_};
 ghost use lib.ListN.{length};
+ghost use Rattle.block.specs.Kinds.{is-counted};
 ghost use Rattle.block.specs.Units.{seen};
 ghost use Rattle.reader.specs.Answers.{Counted, Onward};
 ghost use Rattle.clip.specs.Clipped.{clipped, adds-of};
@@ -8,7 +10,15 @@ ghost use Rattle.clip.specs.Made.{limit-of};
 use crate::clip::Clip;
 use crate::clip::raised;
 use block::fault::Fault;
+use reader::reader::Description;
 use reader::reader::Reader;
+
+// Whether the units of a run are visible.
+fn is_visible(run: Description) -> bool
+    ensures { λ r. ⌜ r ≡ (run .live && is-counted (run .kind)) ⌝ }
+{
+    run.live && run.kind.is_countable()
+}
 
 impl<R: Reader> Clip<R> {
     // How many visible units of a run the clip shows.
@@ -16,11 +26,7 @@ impl<R: Reader> Clip<R> {
         ensures { λ r. ⌜ r ≡ adds-of (limit-of (now (self .entry) .pairs)) (R·Reader .meaning (now (self .entry) .below)) (R·Reader .stretch (now (self .entry) .below) place) ⌝ }
     {
         match self.said(place) {
-            Some(d) => if d.live && d.kind.is_countable() {
-                d.len
-            } else {
-                0
-            },
+            Some(d) => if is_visible(d) { d.len } else { 0 },
             None => 0,
         }
     }

@@ -1,9 +1,20 @@
+ghost use Prim.Native.Nat.{min};
 ghost use mathlib.Core.Path.{_≡_};
 ghost use Rattle.clip.specs.Joined.{Joined, One-clip};
 use crate::clip::Clip;
 use crate::made::is_listed;
 use crate::pair::Pair;
 use crate::pairs::Pairs;
+
+// A pair with the lesser of its clock and another.
+fn lowered(p: Pair, clock: u32) -> Pair
+    ensures { λ r. ⌜ r ≡ record { client = p .client; clock = min (p .clock) clock } ⌝ }
+{
+    Pair {
+        client: p.client,
+        clock: p.clock.min(clock),
+    }
+}
 
 impl Pairs {
     // Two tables as one, whose clip shows what the two clips show as a pile. A client that either
@@ -21,10 +32,7 @@ impl Pairs {
         let mut count = 0usize;
         for p in mine {
             if is_listed(theirs, p.client) {
-                all[count] = Pair {
-                    client: p.client,
-                    clock: p.clock.min(other.limit(p.client)),
-                };
+                all[count] = lowered(*p, other.limit(p.client));
                 count += 1;
             }
         }

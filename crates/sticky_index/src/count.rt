@@ -82,7 +82,7 @@ fn reached(offset: u32, len: u32, assoc: Assoc) -> u32
     }
 }
 
-// Where a mark on a unit stands.
+// Where a mark on a unit stands, with one pass over the runs to the unit's left.
 pub(crate) fn index_at<R: Reader>(reader: &R, seat: Seat<R::Place>, assoc: Assoc) -> Offset
     requires { ⌜ Seated (R·Reader .meaning (now reader)) (R·Reader .stretch (now reader)) seat ⌝ }
     ensures { λ r. ⌜ Indexed (R·Reader .meaning (now (reader .entry))) (R·Reader .stretch (now (reader .entry))) seat assoc r ⌝ }

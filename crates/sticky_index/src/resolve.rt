@@ -28,6 +28,7 @@ fn find_unit<R: Reader>(reader: &R, id: Id) -> Result<Seat<R::Place>, Fault>
     }
 }
 
+// Where a mark on a unit stands.
 fn unit_offset<R: Reader>(reader: &R, id: Id, assoc: Assoc) -> Result<Offset, Fault>
     ensures { λ r. ⌜ r ≡ unit-stop (R·Reader .meaning (now (reader .entry))) assoc (found (R·Reader .meaning (now (reader .entry))) id) ⌝ }
 {
@@ -35,7 +36,7 @@ fn unit_offset<R: Reader>(reader: &R, id: Id, assoc: Assoc) -> Result<Offset, Fa
     Ok(index_at(reader, seat, assoc))
 }
 
-// The end of a list, or its start.
+// Where a mark on a list stands: at its end, or at its start if it leans Before.
 fn list_offset<R: Reader>(reader: &R, list: u32, assoc: Assoc) -> Result<Offset, Fault>
     ensures { λ r. ⌜ r ≡ list-stop (R·Reader .layers (now (reader .entry))) (R·Reader .meaning (now (reader .entry))) list assoc ⌝ }
 {
@@ -47,7 +48,7 @@ fn list_offset<R: Reader>(reader: &R, list: u32, assoc: Assoc) -> Result<Offset,
     Ok(Offset { list, index, assoc })
 }
 
-// The list that a unit holds.
+// The list that a unit holds; only a unit of kind 7 holds one.
 fn held_list<R: Reader>(reader: &R, seat: Seat<R::Place>) -> Option<u32>
     requires { ⌜ Seated (R·Reader .meaning (now reader)) (R·Reader .stretch (now reader)) seat ⌝ }
     ensures { λ r. ⌜ Holds (R·Reader .meaning (now (reader .entry))) (R·Reader .stretch (now (reader .entry))) seat r ⌝ }
@@ -67,6 +68,7 @@ fn held_list<R: Reader>(reader: &R, seat: Seat<R::Place>) -> Option<u32>
     }
 }
 
+// Where a mark on the list that a unit holds stands.
 fn nested_offset<R: Reader>(reader: &R, id: Id, assoc: Assoc) -> Result<Offset, Fault>
     ensures { λ r. ⌜ r ≡ nested-stop (R·Reader .layers (now (reader .entry))) (R·Reader .meaning (now (reader .entry))) assoc (found (R·Reader .meaning (now (reader .entry))) id) ⌝ }
 {
@@ -77,6 +79,7 @@ fn nested_offset<R: Reader>(reader: &R, id: Id, assoc: Assoc) -> Result<Offset, 
     }
 }
 
+// Where a mark on a root stands.
 fn root_offset<R: Reader>(reader: &R, list: u32, assoc: Assoc) -> Result<Offset, Fault>
     ensures { λ r. ⌜ r ≡ if-there (R·Reader .layers (now (reader .entry))) (R·Reader .meaning (now (reader .entry))) list (root-stop (R·Reader .meaning (now (reader .entry))) list assoc (R·Reader .meaning (now (reader .entry)) .holder list)) ⌝ }
 {
@@ -87,7 +90,7 @@ fn root_offset<R: Reader>(reader: &R, list: u32, assoc: Assoc) -> Result<Offset,
 }
 
 impl StickyIndex {
-    // Where the mark stands.
+    // Where the mark stands. One that has lost its unit is refused, and never given a near offset.
     pub fn get_offset<R: Reader>(self, reader: &R) -> Result<Offset, Fault>
         ensures { λ r. ⌜ r ≡ offset-of (R·Reader .layers (now (reader .entry))) (R·Reader .meaning (now (reader .entry))) self ⌝ }
     {

@@ -68,7 +68,9 @@ impl StickyIndex {
         Ok(StickyIndex { scope, assoc })
     }
 
-    // The mark at an index of a list.
+    // The mark at an index of a list. One that leans After keeps to the unit at the index; one that
+    // leans Before keeps to the unit before it, at 0 to the list's start, and one past the length to
+    // the list's last unit, dead or not.
     pub fn at<R: Reader>(
         reader: &R,
         list: u32,

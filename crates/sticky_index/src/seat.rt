@@ -18,6 +18,7 @@ pub(crate) struct Seat<P> {
     pub(crate) run: Description,
 }
 
+// Looks up an id.
 pub(crate) fn look<R: Reader>(reader: &R, id: Id) -> Result<Seat<R::Place>, Fault>
     ensures { λ r. ⌜ Looked (R·Reader .meaning (now (reader .entry))) (R·Reader .stretch (now (reader .entry))) id r ⌝ }
 {
@@ -35,7 +36,8 @@ pub(crate) fn look<R: Reader>(reader: &R, id: Id) -> Result<Seat<R::Place>, Faul
     }
 }
 
-// Looks up an id, and while the unit found has a successor, that one instead; 64 successors at most.
+// Looks up an id, and while the unit found has a successor, that one instead. A 65th successor is not
+// looked up.
 pub(crate) fn track<R: Reader>(reader: &R, id: Id) -> Result<Seat<R::Place>, Fault>
     ensures { λ r. ⌜ Leads (R·Reader .meaning (now (reader .entry))) (R·Reader .stretch (now (reader .entry))) (follow (R·Reader .meaning (now (reader .entry))) 64 id) r ⌝ }
 {

@@ -1,5 +1,5 @@
 use mathlib.Core.Path.{_≡_, sym, ap, subst, _∙_}
-use Prim.Native.Nat.{ℕ, _-_, _<_, min}
+use Prim.Native.Nat.{_-_, _<_, min}
 use Rattle.std.specs.declared.option.Option.the-variants.{Some}
 use Rattle.reader.specs.Answers.{Described}
 use Rattle.clip.specs.Made.{limit-of}

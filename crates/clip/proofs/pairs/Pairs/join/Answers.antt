@@ -1,11 +1,11 @@
 use Prim.Native.Nat.{ℕ, _+_, _≤_, min}
-use mathlib.Core.Path.{_≡_, sym, ap, subst, _∙_}
+use mathlib.Core.Path.{sym, ap, subst, _∙_}
 use mathlib.Core.List.{List}
 use native.Mathlib.Omega.{arith}
-use lib.ListN.{length, getD, set, take}
+use lib.ListN.{length, getD, set}
 use Rattle.std.proofs.shelf.Lists.{length-take}
 use Rattle.clip.specs.declared.pair.Pair.{Pair}
-use Rattle.clip.specs.Made.{pairs-of, limit-of}
+use Rattle.clip.specs.Made.{pairs-of}
 use Rattle.clip.specs.Pairing.{sound}
 use Rattle.clip.proofs.Joining.{Partly, turn-kept, turn-dropped, turns-end, sound-joined, joins}
 use Rattle.clip.proofs.Piles.{one-clip}
@@ -25,8 +25,8 @@ loop-p-again c =
     let few : length ps ≤ 64 = omega (arith, length-take (c .args .self .count) (c .args .self .pairs), c .args .self .few) in
     elim (c .if-is-listed .came) [
       | then-is-listed w ↦
-          (let clock = w .min .ensures ∙ ap (min (p .clock)) (w .limit .ensures) in
-          let all = w .all-is ∙ ap (λ (x : ℕ). set (c .loop-p .all) n (record { client = p .client; clock = x })) clock in
+          (let low = w .lowered .ensures ∙ ap (λ (x : ℕ). record { client = p .client; clock = min (p .clock) x }) (w .limit .ensures) in
+          let all = w .all-is ∙ ap (set (c .loop-p .all) n) low in
           subst (λ (k : ℕ). Partly ps qs (i + 1) k (c .if-is-listed .all)) (sym (w .count-is))
           (subst (λ (xs : List Pair). Partly ps qs (i + 1) (n + 1) xs) (sym all) (turn-kept ps qs (c .loop-p .all) i n none (c .loop-p-test .taken) (c .loop-p .inv) few (sym (w .if-is-listed .ensures tt)))))
       | else-is-listed w ↦

@@ -1,4 +1,4 @@
-use mathlib.Core.Path.{_≡_, subst}
+use mathlib.Core.Path.{subst}
 use Prim.Native.Nat.{_<_, _≤_}
 use Rattle.clip.specs.Made.{limit-of}
 use Rattle.clip.proofs.Finding.{found-shown, found-hidden}
@@ -12,4 +12,4 @@ returns-then-id-limit g c =
 pub returns-else-id-limit : need.returns-else-id-limit
 returns-else-id-limit g c =
     let s = c .args .self .now in
-    found-hidden (limit-of (s .pairs)) (g .R·Reader .meaning (s .below)) (g .R·Reader .stretch (s .below)) (g .R·Reader .settled (s .below)) (c .args .id) (subst (λ x. x ≤ c .args .id .clock) (c .limit .ensures) (c .if-id-limit .left))
+    found-hidden (limit-of (s .pairs)) (g .R·Reader .meaning (s .below)) (c .args .id) (subst (λ x. x ≤ c .args .id .clock) (c .limit .ensures) (c .if-id-limit .left))

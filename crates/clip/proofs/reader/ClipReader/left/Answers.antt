@@ -1,4 +1,4 @@
-use mathlib.Core.Path.{_≡_, sym, _∙_}
+use mathlib.Core.Path.{sym, _∙_}
 use Rattle.clip.specs.Made.{limit-of}
 use Rattle.clip.proofs.Walking.{left-from}
 use Rattle.clip.proofs.reader.ClipReader.left.Needs as need
