@@ -6,7 +6,7 @@ use lib.Dec.{ltb}
 use Rattle.std.specs.declared.option.Option.{Option}
 use Rattle.std.specs.declared.option.Option.the-variants.{Some, None}
 use Rattle.block.specs.declared.ids.Id.{Id}
-use Rattle.block.specs.Lookup.{standing}
+use Rattle.block.specs.Lookup.{upheld}
 use Rattle.block.specs.Units.{Meaning, Lawful}
 use Rattle.clip.specs.Clipped.{clipped}
 
@@ -17,4 +17,4 @@ holder-shown limit (Some h) = ltb (h .clock) (limit (h .client))
 
 -- a list stands under a clip if it stands below and its holder is not hidden: a hidden holder counts as dead
 abbrev pub Hidden-is-dead : Type 0
-Hidden-is-dead = (limit : ℕ → ℕ) (m : Meaning) → Lawful m → (l : ℕ) → standing (clipped limit m) l ≡ (standing m l && holder-shown limit (m .holder l))
+Hidden-is-dead = (limit : ℕ → ℕ) (m : Meaning) → Lawful m → (l : ℕ) → upheld (clipped limit m) l ≡ (upheld m l && holder-shown limit (m .holder l))

@@ -6,4 +6,6 @@ pub mod made;
 pub mod pair;
 pub mod pairs;
 pub mod reader;
+#[cfg(test)]
+mod tests;
 pub mod walk;

@@ -1,0 +1,5 @@
+pub mod Ageing
+pub mod Clips
+pub mod Lefts
+pub mod Steps
+pub mod Theorem

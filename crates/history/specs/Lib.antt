@@ -1,0 +1,4 @@
+pub mod Events
+pub mod Lasting
+pub mod Moves
+pub mod Piles
