@@ -1,0 +1,3 @@
+pub mod sample;
+#[cfg(test)]
+mod tests;
