@@ -1,0 +1,4 @@
+pub mod agree;
+pub mod holders;
+pub mod lengths;
+mod walks;
