@@ -1,0 +1,4 @@
+pub mod Chains
+pub mod Clocks
+pub mod Passes
+pub mod Worths

@@ -1,0 +1,5 @@
+pub mod Cuts
+pub mod Ranges
+pub mod Runs
+pub mod Steps
+pub mod Yields

@@ -1,0 +1,12 @@
+pub mod client_source;
+mod cut;
+mod edge;
+pub mod list_source;
+pub mod range;
+pub mod run;
+pub mod slice;
+pub mod slices;
+pub mod source;
+pub mod state;
+mod unit;
+pub mod values;
