@@ -176,8 +176,8 @@ only-one p n i one lt e =
     let lj = found-within (failing p) n j (s .1) in
     let ej : p j ≡ true = not-false (p j) (found-fails (failing p) n j (s .1)) in
     let same : j ≡ i =
-          ⊎-elim
-          (λ h. let z = passing-two p n j i h lt ej e in absurd (omega arith))
-          (λ h. ⊎-elim (λ k. let z = passing-two p n i j k lj e ej in absurd (omega arith)) (λ k. omega arith) (cases-lt i j))
-          (cases-lt j i) in
+    ⊎-elim
+    (λ h. let z = passing-two p n j i h lt ej e in absurd (omega arith))
+    (λ h. ⊎-elim (λ k. let z = passing-two p n i j k lj e ej in absurd (omega arith)) (λ k. omega arith) (cases-lt i j))
+    (cases-lt j i) in
     s .1 ∙ ap Some same

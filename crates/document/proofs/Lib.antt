@@ -1,0 +1,10 @@
+pub mod Few
+pub mod Filling
+pub mod Fills
+pub mod Nearest
+pub mod Readings
+pub mod Shown
+pub mod TextRuns
+pub mod Texts
+pub mod Verdicts
+pub mod Walked

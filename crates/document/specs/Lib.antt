@@ -1,0 +1,13 @@
+pub mod Examined
+pub mod Meaning
+pub mod Finds
+pub mod Slots
+pub mod Sound
+pub mod WalkFacts
+pub mod ReachFacts
+pub mod KnownFacts
+pub mod PassingFacts
+pub mod SoundFacts
+pub mod ReadingFacts
+pub mod LengthFacts
+pub mod LawFacts

@@ -1,0 +1,7 @@
+pub mod document;
+pub mod examine;
+mod fill;
+pub mod find;
+mod show;
+mod text;
+mod walk;
