@@ -1,5 +1,6 @@
-ghost use Prim.Native.Nat.{ℕ};
 ghost use mathlib.Core.Path.{_≡_};
+ghost use Rattle.std.specs.Options.{Cases};
+ghost use Rattle.block.specs.declared.fault.Code.{Code};
 ghost use Rattle.block.specs.Faults.{code-number, code-words, part-name};
 use crate::ids::Id;
 use crate::ids::IdDebug;
@@ -24,21 +25,6 @@ pub enum Code {
 }
 
 impl Code {
-    pub const ALL: [Code; 12] = [
-        Code::OutOfRange,
-        Code::Overlap,
-        Code::Disagreement,
-        Code::Content,
-        Code::NoSuchList,
-        Code::BeyondLength,
-        Code::NotKnown,
-        Code::NotListed,
-        Code::TooManyRedone,
-        Code::LimitPassed,
-        Code::Misplaced,
-        Code::Backwards,
-    ];
-
     // The fault's number, by which a planner tells faults apart.
     pub fn number(self) -> u8
         ensures { λ r. ⌜ r ≡ code-number self ⌝ }
@@ -56,6 +42,27 @@ impl Code {
             Code::LimitPassed => 10,
             Code::Misplaced => 11,
             Code::Backwards => 12,
+        }
+    }
+
+    // The code with this number; none where no fault has it.
+    pub fn from_number(number: u8) -> Option<Code>
+        ensures { λ r. ⌜ Cases r ((c : Code) → code-number c ≡ number → ⊥) (λ c. code-number c ≡ number) ⌝ }
+    {
+        match number {
+            1 => Some(Code::OutOfRange),
+            2 => Some(Code::Overlap),
+            3 => Some(Code::Disagreement),
+            4 => Some(Code::Content),
+            5 => Some(Code::NoSuchList),
+            6 => Some(Code::BeyondLength),
+            7 => Some(Code::NotKnown),
+            8 => Some(Code::NotListed),
+            9 => Some(Code::TooManyRedone),
+            10 => Some(Code::LimitPassed),
+            11 => Some(Code::Misplaced),
+            12 => Some(Code::Backwards),
+            _ => None,
         }
     }
 

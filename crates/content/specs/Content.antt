@@ -34,6 +34,7 @@ spells s r = is-count (counted basic-char (bytes-of s (entry-at s (r .entry)))) 
 abbrev pub run-filled : Store → RunRecord → Bool
 run-filled s r = leb (r .entry + entries-in r) (length (s .entries)) && cond (is-text r) (spells s r) true
 
+-- the same of run i
 abbrev pub run-filled-at : Store → ℕ → Bool
 run-filled-at s i = run-filled s (run-at s i)
 
@@ -41,6 +42,7 @@ run-filled-at s i = run-filled s (run-at s i)
 abbrev pub has-entry : RunRecord → ℕ → Bool
 has-entry r e = leb (r .entry) e && ltb e (r .entry + entries-in r)
 
+-- run i has this entry
 abbrev pub has-entry-at : Store → ℕ → ℕ → Bool
 has-entry-at s e i = has-entry (run-at s i) e
 
@@ -52,6 +54,7 @@ entry-serves-at s e = eqb (passing (has-entry-at s e) (length (s .runs))) 1
 abbrev pub has-byte : EntryRecord → ℕ → Bool
 has-byte e b = leb (e .start) b && ltb b (e .start + e .len)
 
+-- entry e has this byte
 abbrev pub has-byte-at : Store → ℕ → ℕ → Bool
 has-byte-at s b e = has-byte (entry-at s e) b
 

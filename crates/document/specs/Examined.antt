@@ -63,5 +63,6 @@ misfilled s =
 unfoldable pub examined : Store → Option Fault
 examined s = either (crowded s) (either (out-of-range s) (either (overlapping s) (either (disagreeing s) (misfilled s))))
 
+-- no fault is found
 unfoldable pub accepts : Store → Bool
 accepts s = not (isSome (examined s))

@@ -16,6 +16,7 @@ use Rattle.store.specs.Records.{Store, run-at}
 abbrev pub has : Id → RunRecord → Bool
 has id r = eqb (r .id .client) (id .client) && (leb (r .id .clock) (id .clock) && ltb (id .clock) (end-of r))
 
+-- run i has the unit
 abbrev pub has-at : Store → Id → ℕ → Bool
 has-at s id i = has id (run-at s i)
 
@@ -32,6 +33,7 @@ abbrev pub sooner : Store → Option ℕ → ℕ → Option ℕ
 sooner s None n = Some n
 sooner s (Some p) n = cond (ltb (run-at s n .id .clock) (run-at s p .id .clock)) (Some n) (Some p)
 
+-- run n, if it is due and begins sooner, else the run found before
 abbrev pub next-due : Store → ℕ → ℕ → Option ℕ → ℕ → Option ℕ
 next-due s c k o n = cond (is-due c k (run-at s n)) (sooner s o n) o
 

@@ -29,6 +29,7 @@ list-held s id = valueOr (first-bad (failing (held-by-at s id)) (length (s .list
 abbrev pub entry-worth : Store → ℕ → Worth
 entry-worth s e = bytes (bytes-of s (entry-at s e))
 
+-- character k of an entry
 abbrev pub character-worth : Store → ℕ → ℕ → Worth
 character-worth s e k = bytes (getD (characters utf8-char (bytes-of s (entry-at s e))) k [])
 
@@ -50,6 +51,7 @@ worth-of s kinds.Skip r k = bytes []
 abbrev pub unit-of : Store → RunRecord → ℕ → Unit-of
 unit-of s r k = record { id = record { client = r .id .client; clock = r .id .clock + k }; kind = kind-of (r .kind); live = r .live; worth = worth-of s (kind-of (r .kind)) r k; redone = r .redone }
 
+-- the units of a run
 abbrev pub units-of : Store → RunRecord → List Unit-of
 units-of s r = map (unit-of s r) (counting 0 (r .len))
 
@@ -68,9 +70,11 @@ unfoldable pub clock-in : List ClientRecord → ℕ → ℕ
 clock-in [] c = 0
 clock-in (r ∷ rs) c = cond (eqb (r .client) c) (r .known) (clock-in rs c)
 
+-- what the tables mean
 abbrev pub meaning-of : Store → Meaning
 meaning-of s = record { lists = length (s .lists); units = units-in s; holder = λ l. list-at s l .holder; known = clock-in (s .clients) }
 
+-- so many more, if there is a number
 abbrev pub plus : ℕ → Option ℕ → Option ℕ
 plus k None = None
 plus k (Some x) = Some (x + k)
@@ -85,6 +89,7 @@ upto s (Some j) (suc n) = plus (run-at s j .len) (upto s (run-at s j .left) n)
 abbrev pub offset : Store → ℕ → Option ℕ
 offset s i = upto s (run-at s i .left) (length (s .runs))
 
+-- a stretch, where the list and the offset are known
 abbrev pub stretched : Option ℕ → Option ℕ → ℕ → Option Stretch
 stretched (Some l) (Some x) n = Some (record { list = l; from = x; count = n })
 stretched (Some l) None n = None

@@ -41,6 +41,7 @@ shown-in s slots.Empty = None
 shown-in s (slots.Content kind start len) = cond (leb (start + len) (length (s .bytes))) (shown-content kind (take len (drop start (s .bytes)))) None
 shown-in s (slots.List l) = cond (ltb l (length (s .lists))) (Some (kinds.List, nested l)) None
 
+-- the slot of an entry
 abbrev pub entry-slot : Store → Kind → ℕ → Slot
 entry-slot s kind e = slots.Content kind (entry-at s e .start) (entry-at s e .len)
 
@@ -48,9 +49,11 @@ entry-slot s kind e = slots.Content kind (entry-at s e .start) (entry-at s e .le
 abbrev pub place-of : List (List ℕ) → ℕ → ℕ
 place-of cs k = length (together (take k cs))
 
+-- the slot of character k of a text that begins at this byte
 abbrev pub text-slot : ℕ → List (List ℕ) → ℕ → Slot
 text-slot start cs k = slots.Content kinds.Text (start + place-of cs k) (length (getD cs k []))
 
+-- the slot of a unit that holds a list
 abbrev pub list-slot : ℕ → ℕ → Slot
 list-slot l k = slots.List l
 

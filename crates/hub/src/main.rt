@@ -1,37 +1,72 @@
-use block::fault::Code;
-use block::kind::Kind;
+use crate::answer::answer;
+use crate::answer::print_trouble;
+use crate::build::Store;
+use crate::tell::tell;
+use block::fault::FaultDisplay;
+use document::document::Document;
+use document::document::DocumentReader;
+use std::alloc::Global;
 use std::io;
+use store::records::View;
 
-// The kinds of units, by number, and whether their live units count towards a list's length.
-fn print_kinds(rt: &impl Print) -> io::Result<()> {
-    println!(rt, "kinds")?;
-    for number in 0..=10u8 {
-        if let Some(kind) = Kind::from_number(number) {
-            let name = kind.name();
-            let counted = if kind.is_countable() {
-                "counted"
-            } else {
-                "not counted"
-            };
-            println!(rt, "  {number:>2}  {name:<10}  {counted}")?;
-        }
+mod answer;
+mod ask;
+mod build;
+mod marks;
+mod parse;
+mod story;
+mod tables;
+mod tell;
+
+// The lines of standard input.
+fn read_lines(rt: &(impl Input + Alloc<A = Global>)) -> io::Result<Vec<String>> {
+    let mut lines = Vec::new(rt.alloc());
+    for line in rt.lines(rt.alloc()) {
+        lines.push(line?)?;
     }
-    Ok(())
+    Ok(lines)
 }
 
-// The faults, by number.
-fn print_faults(rt: &impl Print) -> io::Result<()> {
-    println!(rt, "faults")?;
-    for code in Code::ALL {
-        let number = code.number();
-        let words = code.words();
-        println!(rt, "  {number:>2}  {words}")?;
+// Fills tables with what the lines tell of the document; each bad line is named, and then false is the
+// answer.
+fn told(rt: &impl Print, store: &mut Store, lines: &[String]) -> io::Result<bool> {
+    let mut good = true;
+    let mut number = 0usize;
+    for line in lines {
+        number = number.saturating_add(1);
+        if let Err(trouble) = tell(store, line.as_str().trim()) {
+            print_trouble(rt, number, trouble)?;
+            good = false;
+        }
     }
-    Ok(())
+    Ok(good)
+}
+
+// Examines the tables, and answers the questions or names the fault.
+fn examined(rt: &impl Print, heap: Global, store: &Store, lines: &[String]) -> io::Result<()> {
+    let view = View {
+        runs: store.runs.as_slice(),
+        lists: store.lists.as_slice(),
+        clients: store.clients.as_slice(),
+        entries: store.entries.as_slice(),
+        bytes: store.bytes.as_slice(),
+    };
+    let lists = match u32::try_from(store.lists.len()) {
+        Ok(n) => n,
+        Err(_) => 0,
+    };
+    match Document::examine(&view) {
+        Err(fault) => println!(rt, "the store is damaged: {fault}"),
+        Ok(document) => answer(rt, heap, &document, lists, lines),
+    }
 }
 
 fn main(rt: LibcRuntime) -> io::Result<()> {
-    print_kinds(&rt)?;
-    println!(rt, "")?;
-    print_faults(&rt)
+    let heap = rt.alloc();
+    let lines = read_lines(&rt)?;
+    let mut store = Store::new(heap);
+    if told(&rt, &mut store, lines.as_slice())? {
+        examined(&rt, heap, &store, lines.as_slice())?;
+    }
+    Ok(())
 }

@@ -3,14 +3,13 @@ use Prim.Native.Nat.{ℕ, _+_, _-_, _^_, _≤_, _<_}
 use mathlib.Core.Path.{_≡_, refl, sym, ap, subst, _∙_}
 use mathlib.Core.List.{List, [], _∷_}
 use native.Mathlib.Omega.{arith}
-use lib.ListN.{length}
 use Rattle.std.specs.declared.option.Option.{Option}
 use Rattle.std.specs.declared.option.Option.the-variants.{Some, None}
 use Rattle.block.specs.Units.{Meaning, Lawful, Stretch, Run-of, unit-at}
 use Rattle.reader.specs.declared.reader.Description.{Description}
-use Rattle.reader.specs.Answers.{Onward, Right, Described, described}
+use Rattle.reader.specs.Answers.{Onward, Described, described}
 use Rattle.iter.specs.declared.run.Run.{Run}
-use Rattle.iter.specs.Runs.{Runs-from, From-here, From-stretch, Taken, Fit, span-left, most-runs}
+use Rattle.iter.specs.Runs.{Runs-from, From-here, From-stretch, Taken, span-left}
 
 pub described-some : (m : Meaning) (o : Option Stretch) (d : Description) → Described m o (Some d) → (t : Stretch) × (o ≡ Some t) × (d ≡ described m t)
 described-some m None d h = let z : _≡_ {A = ℕ} 0 1 = cc in absurd (omega arith)

@@ -1,9 +1,8 @@
 -- A client's runs by their clocks.
-use Prim.Native.Nat.{ℕ, _+_, _-_, _≤_, _<_}
+use Prim.Native.Nat.{ℕ, _+_, _-_, _<_}
 use mathlib.Core.Path.{_≡_, refl, sym, ap, subst, _∙_}
 use mathlib.Core.List.{List, [], _∷_}
 use native.Mathlib.Omega.{arith}
-use lib.ListN.{length}
 use Rattle.std.specs.declared.option.Option.{Option}
 use Rattle.std.specs.declared.option.Option.the-variants.{Some, None}
 use Rattle.block.specs.declared.ids.Id.{Id}
@@ -14,7 +13,7 @@ use Rattle.iter.specs.declared.run.Run.{Run}
 use Rattle.iter.specs.Runs.{Apart, By-clock, Taken}
 use Rattle.iter.proofs.Chains.{described-some, same-run, run-known}
 
-same-id : (a b : Id) → a .client ≡ b .client → a .clock ≡ b .clock → a ≡ b
+pub same-id : (a b : Id) → a .client ≡ b .client → a .clock ≡ b .clock → a ≡ b
 same-id a b p q = ap (λ (x : ℕ). record { client = x; clock = a .clock }) p ∙ ap (λ (x : ℕ). record { client = b .client; clock = x }) q
 
 module _ {P : Type 0} (m : Meaning) (st : P → Option Stretch) (lawful : Lawful m) (settled : (p : P) (t : Stretch) → st p ≡ Some t → Run-of m t) (client clock : ℕ) where

@@ -1,9 +1,9 @@
 -- The visible units of a part of a run.
 use Prim.Native.Nat.{ℕ, zero, suc, _+_, _-_, _≤_, _<_, min}
 use mathlib.Core.Path.{_≡_, refl, sym, ap, subst, _∙_}
-use mathlib.Core.Bool.{Bool, true, false, cond, _&&_}
+use mathlib.Core.Bool.{Bool, true, false, cond}
 use mathlib.Core.List.{List, [], _∷_}
-use mathlib.Core.Logic.{_⊎_, inl, inr}
+use mathlib.Core.Logic.{inl, inr}
 use native.Mathlib.Omega.{arith}
 use native.Mathlib.Nat.{add-assoc, add-zero}
 use lib.ListN.{length, getD, take, drop}
@@ -18,7 +18,7 @@ use Rattle.block.specs.Values.{facet}
 use Rattle.block.specs.Units.{Worth, Unit-of, Meaning, Stretch, Run-of, unit-at, no-unit, visible, seen}
 use Rattle.block.proofs.Seen.{run-visible}
 use Rattle.reader.specs.declared.reader.Description.{Description}
-use Rattle.reader.specs.Answers.{Described, Valued, described}
+use Rattle.reader.specs.Answers.{Described, Valued}
 use Rattle.iter.specs.declared.slice.ItemSlice.{ItemSlice}
 use Rattle.iter.specs.Yields.{seen-in, First-value}
 use Rattle.iter.proofs.Chains.{described-some}

@@ -1,3 +1,5 @@
+pub mod Between
+pub mod Collects
 pub mod Cuts
 pub mod Ranges
 pub mod Runs

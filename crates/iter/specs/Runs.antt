@@ -1,5 +1,5 @@
 -- Runs that come one after another: those of a list from left to right, and those of a client by their clocks.
-use Prim.Native.Nat.{ℕ, suc, _+_, _-_, _^_, _≤_, _<_}
+use Prim.Native.Nat.{ℕ, _+_, _-_, _^_, _≤_, _<_}
 use mathlib.Core.Path.{_≡_}
 use mathlib.Core.List.{List, [], _∷_}
 use lib.ListN.{length}
@@ -57,9 +57,9 @@ abbrev pub span-left : {P : Type 0} → Meaning → (P → Option Stretch) → O
 span-left m st None = 0
 span-left m st (Some p) = most-runs m (st p)
 
--- what an opening answers: all the runs of the list are ahead, or the reader comes back with its own refusal
+-- what an opening answers: what is ahead are all the runs of the list, or the reader comes back with its own refusal
 abbrev pub Opens : {R P : Type 0} → (R → Meaning) → (R → P → Option Stretch) → (R → ℕ) → R → ℕ → Result (ListSource R P) (R × Fault) → Type 0
-Opens meaning stretch layers r l (Ok s) = (l < meaning r .lists) × (s .reader ≡ r) × ((ws : List (Run _)) → Runs-from (meaning r) (stretch r) l 0 ws → From-here (meaning r) (stretch r) (s .at) ws)
+Opens meaning stretch layers r l (Ok s) = (l < meaning r .lists) × (s .reader ≡ r) × ((ws : List (Run _)) → Runs-from (meaning r) (stretch r) l 0 ws → From-here (meaning r) (stretch r) (s .at) ws) × ((ws : List (Run _)) → From-here (meaning r) (stretch r) (s .at) ws → Runs-from (meaning r) (stretch r) l 0 ws)
 Opens meaning stretch layers r l (Err e) = (meaning r .lists ≤ l) × (e .0 ≡ r) × (e .1 ≡ no-list (layers r) l)
 
 -- no unit stands under two places

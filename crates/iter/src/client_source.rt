@@ -31,7 +31,7 @@ impl<R: Reader> ClientSource<R> {
         let ClientSource {
             reader,
             client: _client,
-            clock: _clock,
+            clock: _at,
         } = self;
         reader
     }

@@ -1,6 +1,6 @@
 ghost use mathlib.Core.Path.{_≡_};
-ghost use Prim.Native.Nat.{_<_, _≤_};
-ghost use Rattle.iter.specs.Ranges.{has-unit, offset-in, edge, met, first-in};
+ghost use Prim.Native.Nat.{_<_};
+ghost use Rattle.iter.specs.Ranges.{has-unit, edge, met, first-in};
 use block::ids::Id;
 use reader::reader::Description;
 use sticky_index::index::Assoc;

@@ -1,4 +1,5 @@
 pub mod client_source;
+pub mod collect;
 mod cut;
 mod edge;
 pub mod list_source;

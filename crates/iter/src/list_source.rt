@@ -1,6 +1,8 @@
+ghost use mathlib.Core.List.{List};
 ghost use mathlib.Core.Path.{_≡_};
-ghost use Rattle.std.specs.Results.{Cases};
-ghost use Rattle.iter.specs.Runs.{From-here, span-left, Opens};
+ghost use Rattle.iter.specs.Runs.{From-here, Runs-from, span-left, Opens};
+ghost use Rattle.iter.specs.Between.{run-ids, unit-ids};
+ghost use Rattle.iter.specs.declared.run.Run.{Run};
 use crate::run::Run;
 use crate::source::Source;
 use block::fault::Fault;
@@ -13,9 +15,10 @@ pub struct ListSource<R: Reader> {
 }
 
 impl<R: Reader> ListSource<R> {
-    // All the runs of a list. Where the list is not there, the reader comes back with its refusal.
+    // All the runs of a list, which have exactly the list's units. Where the list is not there, the reader comes back with its refusal.
     pub fn open(reader: R, list: u32) -> Result<ListSource<R>, (R, Fault)>
-        ensures { λ r. ⌜ Opens (R·Reader .meaning) (R·Reader .stretch) (R·Reader .layers) reader list r ⌝ }
+        ensures opens { λ r. ⌜ Opens (R·Reader .meaning) (R·Reader .stretch) (R·Reader .layers) reader list r ⌝ }
+        ensures units { λ _. ⌜ ((ws : List (Run R·Place)) → Runs-from (R·Reader .meaning reader) (R·Reader .stretch reader) list 0 ws → run-ids ws ≡ unit-ids (R·Reader .meaning reader .units list)) ⌝ }
     {
         match reader.first(list) {
             Err(e) => Err((reader, e)),

@@ -1,5 +1,8 @@
+ghost use mathlib.Core.List.{List};
 ghost use mathlib.Core.Path.{_≡_};
-ghost use Rattle.iter.specs.Steps.{Coming};
+ghost use Rattle.iter.specs.Between.{Between};
+ghost use Rattle.iter.specs.Steps.{Coming, gives};
+ghost use Rattle.iter.specs.declared.run.Run.{Run};
 ghost use Rattle.iter.specs.declared.state.RangeIterState.the-variants.{Opened};
 use crate::cut::meet;
 use crate::slice::ItemSlice;
@@ -18,8 +21,11 @@ pub struct RangeIter<S: Source> {
 }
 
 impl<S: Source> RangeIter<S> {
+    // A range that has not met its start. Unless it is refused, its slices have exactly the units
+    // between the marks.
     pub fn new(iter: S, start: StickyIndex, end: StickyIndex) -> RangeIter<S>
-        ensures { λ r. ⌜ r ≡ record { iter = iter; start = start; end = end; state = Opened } ⌝ }
+        ensures opened { λ r. ⌜ r ≡ record { iter = iter; start = start; end = end; state = Opened } ⌝ }
+        ensures between { λ r. ⌜ ((ws : List (Run S·Place)) → Between start end ws (gives r ws)) ⌝ }
     {
         RangeIter {
             iter,

@@ -11,10 +11,10 @@ use reader::reader::Description;
 // A part of a run, from one offset to another, both included. It is never empty.
 #[derive(Copy)]
 pub struct ItemSlice<P> {
-    pub(crate) place: P,
-    pub(crate) run: Description,
-    pub(crate) start: u32,
-    pub(crate) end: u32,
+    pub place: P,
+    pub run: Description,
+    pub start: u32,
+    pub end: u32,
     ghost ordered: { start ≤ end },
     ghost inside: { end < run .len },
     ghost short: { run .len < 2 ^ 32 },
@@ -38,20 +38,6 @@ impl<P: Copy> ItemSlice<P> {
         } else {
             None
         }
-    }
-
-    // The place of the slice's run.
-    pub fn place(&self) -> P
-        ensures { λ r. ⌜ r ≡ now (self .entry) .place ⌝ }
-    {
-        self.place
-    }
-
-    // The slice's run.
-    pub fn run(&self) -> Description
-        ensures { λ r. ⌜ r ≡ now (self .entry) .run ⌝ }
-    {
-        self.run
     }
 
     // The clock of the first unit.

@@ -18,6 +18,7 @@ use Rattle.links.specs.Walks.{left-agrees, right-agrees, is-reached, start-agr
 abbrev pub is-list : RunRecord → Bool
 is-list r = eqb (r .kind) 7
 
+-- this id and no other
 abbrev pub is-id : Option Id → Id → Bool
 is-id None id = false
 is-id (Some h) id = same-id h id
@@ -30,6 +31,7 @@ held-by-at s id l = is-id (list-at s l .holder) id
 abbrev pub holds-one : Store → RunRecord → Bool
 holds-one s r = cond (is-list r) (eqb (passing (held-by-at s (r .id)) (length (s .lists))) 1) true
 
+-- client record i is of this client
 abbrev pub is-client-at : Store → ℕ → ℕ → Bool
 is-client-at s c i = eqb (client-at s i .client) c
 
@@ -37,12 +39,15 @@ is-client-at s c i = eqb (client-at s i .client) c
 abbrev pub is-recorded : Store → ℕ → Bool
 is-recorded s c = some-pass (is-client-at s c) (length (s .clients))
 
+-- run i agrees with its neighbours, its list, the list that it holds and its client
 abbrev pub run-agrees-at : Store → ℕ → Bool
 run-agrees-at s i = left-agrees s i (run-at s i .left) && (right-agrees s i (run-at s i .right) && (is-reached s i (run-at s i .list) && (holds-one s (run-at s i) && is-recorded s (run-at s i .id .client))))
 
+-- the run is the unit of kind 7 with this id
 abbrev pub is-holder : RunRecord → Id → Bool
 is-holder r h = is-list r && same-id (r .id) h
 
+-- run i is that unit
 abbrev pub is-holder-at : Store → Id → ℕ → Bool
 is-holder-at s h i = is-holder (run-at s i) h
 
@@ -51,6 +56,7 @@ abbrev pub holder-agrees : Store → Option Id → Bool
 holder-agrees s None = true
 holder-agrees s (Some h) = some-pass (is-holder-at s h) (length (s .runs))
 
+-- list l agrees with its start, its holder and its runs
 abbrev pub list-agrees-at : Store → ℕ → Bool
 list-agrees-at s l = start-agrees s l (list-at s l .start) && (holder-agrees s (list-at s l .holder) && eqb (list-at s l .len) (visible-sum s l (length (s .runs))))
 
@@ -58,5 +64,6 @@ list-agrees-at s l = start-agrees s l (list-at s l .start) && (holder-agrees s (
 abbrev pub client-agrees : Store → ClientRecord → Bool
 client-agrees s c = eqb (c .known) (last-end s (c .client) (length (s .runs)))
 
+-- the same of client record i
 abbrev pub client-agrees-at : Store → ℕ → Bool
 client-agrees-at s i = client-agrees s (client-at s i)

@@ -15,6 +15,7 @@ end-of r = r .id .clock + r .len
 abbrev pub is-clear : RunRecord → RunRecord → Bool
 is-clear a b = not (eqb (a .id .client) (b .id .client)) || (leb (end-of a) (b .id .clock) || leb (end-of b) (a .id .clock))
 
+-- run i shares no unit with another run j
 abbrev pub is-clear-at : Store → ℕ → ℕ → Bool
 is-clear-at s i j = eqb i j || is-clear (run-at s i) (run-at s j)
 
@@ -22,6 +23,7 @@ is-clear-at s i j = eqb i j || is-clear (run-at s i) (run-at s j)
 abbrev pub comes-after : RunRecord → RunRecord → Bool
 comes-after a b = eqb (a .id .client) (b .id .client) && eqb (end-of b) (a .id .clock)
 
+-- run i begins where run j ends
 abbrev pub comes-after-at : Store → ℕ → ℕ → Bool
 comes-after-at s i j = comes-after (run-at s i) (run-at s j)
 

@@ -5,6 +5,7 @@ use Rattle.std.specs.Options.{isSome}
 use Rattle.std.specs.declared.option.Option.{Option}
 use Rattle.std.specs.declared.option.Option.the-variants.{Some, None}
 
+-- the first number, if any
 abbrev pub or-else : Option ℕ → Option ℕ → Option ℕ
 or-else (Some i) o = Some i
 or-else None o = o
@@ -18,6 +19,7 @@ first-bad p (suc n) = or-else (first-bad p n) (cond (p n) None (Some n))
 unfoldable pub all-pass : (ℕ → Bool) → ℕ → Bool
 all-pass p n = not (isSome (first-bad p n))
 
+-- the test that passes where this one fails
 abbrev pub failing : (ℕ → Bool) → ℕ → Bool
 failing p k = not (p k)
 

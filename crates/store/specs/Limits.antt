@@ -15,6 +15,7 @@ use Rattle.store.specs.declared.tables.Tables.{Tables}
 use Rattle.store.specs.Records.{Store, held}
 use Rattle.store.specs.Refusals.{fault-at}
 
+-- no table has more records in use than a document may have
 abbrev pub counts-fit : Store → Bool
 counts-fit s = leb (length (s .runs)) 4096 && (leb (length (s .lists)) 256 && (leb (length (s .clients)) 64 && (leb (length (s .entries)) 8192 && leb (length (s .bytes)) 65536)))
 
@@ -22,6 +23,7 @@ counts-fit s = leb (length (s .runs)) 4096 && (leb (length (s .lists)) 256 && (l
 abbrev pub count-fits : ℕ → ℕ → ℕ → Bool
 count-fits count room limit = leb count room && leb count limit
 
+-- each count is within its table and its limit
 abbrev pub is-counted : Tables → Bool
 is-counted t = count-fits (t .«run_count») (length (now (t .runs))) 4096 && (count-fits (t .«list_count») (length (now (t .lists))) 256 && (count-fits (t .«client_count») (length (now (t .clients))) 64 && (count-fits (t .«entry_count») (length (now (t .entries))) 8192 && count-fits (t .«byte_count») (length (now (t .bytes))) 65536)))
 

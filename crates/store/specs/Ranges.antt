@@ -52,9 +52,11 @@ is-placed r = cond (stands-apart (kind-of (r .kind))) (not (isSome (r .list)) &&
 abbrev pub length-fits : RunRecord → Bool
 length-fits r = cond (is-single (kind-of (r .kind))) (eqb (r .len) 1) true
 
+-- each number of a run is in range
 abbrev pub run-fits : Store → RunRecord → Bool
 run-fits s r = numbers-fit r && (names-fit s r && (entry-fits s r && (is-placed r && length-fits r)))
 
+-- the same of run i
 abbrev pub run-fits-at : Store → ℕ → Bool
 run-fits-at s i = run-fits s (run-at s i)
 
@@ -62,9 +64,11 @@ run-fits-at s i = run-fits s (run-at s i)
 abbrev pub list-fits : Store → ListRecord → Bool
 list-fits s h = in-use (h .start) (length (s .runs)) && (id-fits (h .holder) && ltb (h .len) (2 ^ 32))
 
+-- the same of list l
 abbrev pub list-fits-at : Store → ℕ → Bool
 list-fits-at s l = list-fits s (list-at s l)
 
+-- client record j is of another client than record i
 abbrev pub other-client : Store → ℕ → ℕ → Bool
 other-client s i j = not (eqb (client-at s j .client) (client-at s i .client))
 
@@ -76,5 +80,6 @@ client-fits-at s i = is-client (client-at s i .client) && (is-clock (client-at s
 abbrev pub entry-inside : Store → EntryRecord → Bool
 entry-inside s e = leb (e .start + e .len) (length (s .bytes))
 
+-- the same of entry i
 abbrev pub entry-fits-at : Store → ℕ → Bool
 entry-fits-at s i = entry-inside s (entry-at s i)

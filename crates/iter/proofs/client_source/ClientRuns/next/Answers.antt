@@ -1,6 +1,4 @@
 use native.Mathlib.Omega.{arith}
-use mathlib.Core.Path.{_≡_}
-use Prim.Native.Nat.{ℕ}
 use Rattle.iter.proofs.Chains.{run-known, run-fits}
 use Rattle.iter.proofs.Clocks.{first-by-clock, ends-by-clock, clock-rises}
 use Rattle.iter.proofs.client_source.ClientRuns.next.Needs as need

@@ -1,9 +1,8 @@
 use mathlib.Core.Path.{sym, subst}
-use mathlib.Core.List.{List, _∷_}
+use mathlib.Core.List.{_∷_}
 use Prim.Native.Nat.{_<_}
 use Rattle.std.specs.declared.option.Option.{Option}
 use Rattle.block.specs.Units.{Stretch}
-use Rattle.iter.specs.declared.run.Run.{Run}
 use Rattle.iter.specs.Runs.{From-here, From-stretch, span-left}
 use Rattle.iter.proofs.Chains.{described-some, run-fits, onward-nearer, first-run, first-given}
 use Rattle.iter.proofs.list_source.ListRuns.next.Needs as need
