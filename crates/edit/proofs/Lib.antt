@@ -1,0 +1,11 @@
+mod Verdicts
+mod Still
+mod Sums
+mod Deaths
+mod Uses
+mod Touches
+mod Aiming
+mod Ends
+mod Renewals
+mod Happening
+mod Blanks

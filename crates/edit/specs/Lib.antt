@@ -1,0 +1,4 @@
+pub mod Aims
+pub mod Edits
+pub mod Happenings
+pub mod Creation

@@ -1,0 +1,4 @@
+mod aim;
+pub mod create;
+pub mod redo;
+pub mod tombstone;
