@@ -1,0 +1,4 @@
+// Small documents to try things on.
+mod records;
+#[cfg(test)]
+mod tests;
