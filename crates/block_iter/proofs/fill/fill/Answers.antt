@@ -7,11 +7,11 @@ use Rattle.block_iter.proofs.fill.fill.Goals.{else-loop-used-test, then-loop-use
 pub loop-used-preserved : goal.loop-used-preserved
 loop-used-preserved g c =
     let (most, inv) = c.loop-used.invariant in
-    let took = c.read-run-next.ensures in
+    let took = c.read_run-next.ensures in
     let few = simp (length-take, length-drop) at took.stepped.fewer in
-    let long = same_len_mid c.loop-used.used _ c.loop-used.slots c.read-run-next.new.slots c.read-run-next.auto.slots in (
+    let long = same_len_mid c.loop-used.used _ c.loop-used.slots c.read_run-next.new.slots c.read_run-next.auto.slots in (
       omega arith,
-      λ k vs w. fill_more _ _ (g.R.Reader.settled c.args.reader.now) _ c.loop-used.slots _ c.read-run-next.new.slots c.loop-used.used _ _ _ _ _ _ _ c.in-Some.is took most c.read-run-next.auto.slots k vs (inv k vs w),
+      λ k vs w. fill_more _ _ (g.R.Reader.settled c.args.reader.now) _ c.loop-used.slots _ c.read_run-next.new.slots c.loop-used.used _ _ _ _ _ _ _ c.in-Some.is took most c.read_run-next.auto.slots k vs (inv k vs w),
     )
 
 pub returns : goal.returns

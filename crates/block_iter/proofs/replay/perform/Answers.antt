@@ -10,12 +10,12 @@ use Rattle.block_iter.proofs.replay.perform.Goals as goal
 
 pub returns-in-Skip : goal.returns-in-Skip
 returns-in-Skip g c =
-    let moved = c.try-forward.ensures.moved c.requires.sound in
-    let same = c.try-forward.ensures.same in
+    let moved = c.try_forward.ensures.moved c.requires.sound in
+    let same = c.try_forward.ensures.same in
     record {
       same = same;
       sound = moved.sound;
-      plain = skipped g.R.Reader.meaning g.R.Reader.stretch g.R.Reader.shown c.args.cursor.now c.try-forward.new.self c.in-Skip.n _ c.in-Skip.is c.args.slots.now c.args.used _ _ c.answered-o.ensures same moved;
+      plain = skipped g.R.Reader.meaning g.R.Reader.stretch g.R.Reader.shown c.args.cursor.now c.try_forward.new.self c.in-Skip.n _ c.in-Skip.is c.args.slots.now c.args.used _ _ c.answered-o.ensures same moved;
       rest = refl;
     }
 

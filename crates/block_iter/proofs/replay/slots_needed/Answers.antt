@@ -7,12 +7,12 @@ use Rattle.block_iter.proofs.replay.slots_needed.Goals as goal
 pub loop-call-preserved : goal.loop-call-preserved
 loop-call-preserved c =
     let (below, most, inv) = c.loop-call.invariant in
-    let within = c.count-call-i.ensures.within in (
+    let within = c.count_call-i.ensures.within in (
       within.0,
       within.1,
       λ k vs n.
           let (i, u) = inv k vs n in
-          let (x, y) = c.count-call-i.ensures.plain k vs _ n i u in
+          let (x, y) = c.count_call-i.ensures.plain k vs _ n i u in
           let more = sym (fold_more (plain_call k vs) plain_start c.args.calls.now c.loop-call.call-index _ c.loop-call-test.true) in
           (x ∙ ap (λ (s : Plain). s.index) more, y ∙ ap (λ (s : Plain). length s.shown) more),
     )

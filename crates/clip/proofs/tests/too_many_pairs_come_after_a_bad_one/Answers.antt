@@ -2,5 +2,5 @@ use Rattle.std.proofs.Common.{sym, arith}
 use Rattle.std.proofs.lemmas.List.{length-take-le}
 use Rattle.clip.proofs.tests.too_many_pairs_come_after_a_bad_one.Goals as goal
 
-pub slice-bounds-new-end : goal.slice-bounds-new-end
-slice-bounds-new-end c = sym (length-take-le 64 c.loop-i.many (omega (arith, c.loop-i.invariant)))
+pub slice_bounds-new-end : goal.slice_bounds-new-end
+slice_bounds-new-end c = sym (length-take-le 64 c.loop-i.many (omega (arith, c.loop-i.invariant)))

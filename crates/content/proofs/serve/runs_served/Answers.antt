@@ -3,7 +3,7 @@ use Rattle.store.specs.FirstFacts.{passing_zero, passing_yes, passing_no, passin
 use Rattle.store.specs.Records.{held}
 use Rattle.content.specs.Content.{has_entry_at}
 use Rattle.content.proofs.serve.runs_served.Goals as goal
-use Rattle.content.proofs.serve.runs_served.Goals.{then-has-entry, else-has-entry}
+use Rattle.content.proofs.serve.runs_served.Goals.{then-has_entry, else-has_entry}
 
 pub loop-run-init : goal.loop-run-init
 loop-run-init c = (sym (passing_zero _), omega arith)
@@ -11,9 +11,9 @@ loop-run-init c = (sym (passing_zero _), omega arith)
 pub loop-run-preserved : goal.loop-run-preserved
 loop-run-preserved c =
     let f = c.loop-run.invariant.0 in
-    elim c.if-has-entry.branch [
-      | then-has-entry w ↦ (omega (arith, passing_yes (has_entry_at (held c.args.view.now) c.args.e) c.loop-run.run_index (sym w.if-has-entry.ensures), f, w.count-is), omega (arith, w.count-is))
-      | else-has-entry w ↦ (omega (arith, passing_no (has_entry_at (held c.args.view.now) c.args.e) c.loop-run.run_index (sym w.if-has-entry.ensures), f, w.count-is), omega (arith, w.count-is))
+    elim c.if-has_entry.branch [
+      | then-has_entry w ↦ (omega (arith, passing_yes (has_entry_at (held c.args.view.now) c.args.e) c.loop-run.run_index (sym w.if-has_entry.ensures), f, w.count-is), omega (arith, w.count-is))
+      | else-has_entry w ↦ (omega (arith, passing_no (has_entry_at (held c.args.view.now) c.args.e) c.loop-run.run_index (sym w.if-has_entry.ensures), f, w.count-is), omega (arith, w.count-is))
     ]
 
 pub returns : goal.returns

@@ -3,14 +3,14 @@ use Rattle.store.specs.Records.{held}
 use Rattle.document.proofs.Few.{few, found_below}
 use Rattle.document.proofs.examine.out_of_range.Goals as goal
 
-pub overflow-cast-i : goal.overflow-cast-i
-overflow-cast-i c = omega (arith, found_below _ _ c.in-Some.i c.in-Some.ensures (few (held c.args.view.now) c.requires).runs)
+pub overflow_cast-i : goal.overflow_cast-i
+overflow_cast-i c = omega (arith, found_below _ _ c.in-Some.i c.in-Some.ensures (few (held c.args.view.now) c.requires).runs)
 
-pub overflow-cast-l : goal.overflow-cast-l
-overflow-cast-l c = omega (arith, found_below _ _ c.in-Some-first-list.l c.in-Some-first-list.ensures (few (held c.args.view.now) c.requires).lists)
+pub overflow_cast-l : goal.overflow_cast-l
+overflow_cast-l c = omega (arith, found_below _ _ c.in-Some-first_list.l c.in-Some-first_list.ensures (few (held c.args.view.now) c.requires).lists)
 
-pub overflow-cast-i-in-Some-first-client : goal.overflow-cast-i-in-Some-first-client
-overflow-cast-i-in-Some-first-client c = omega (arith, found_below _ _ c.in-Some-first-client.i c.in-Some-first-client.ensures (few (held c.args.view.now) c.requires).clients)
+pub overflow_cast-i-in-Some-first_client : goal.overflow_cast-i-in-Some-first_client
+overflow_cast-i-in-Some-first_client c = omega (arith, found_below _ _ c.in-Some-first_client.i c.in-Some-first_client.ensures (few (held c.args.view.now) c.requires).clients)
 
-pub overflow-cast-e : goal.overflow-cast-e
-overflow-cast-e c = omega (arith, found_below _ _ c.in-Some-first-entry.e c.in-Some-first-entry.ensures (few (held c.args.view.now) c.requires).entries)
+pub overflow_cast-e : goal.overflow_cast-e
+overflow_cast-e c = omega (arith, found_below _ _ c.in-Some-first_entry.e c.in-Some-first_entry.ensures (few (held c.args.view.now) c.requires).entries)

@@ -13,20 +13,20 @@ use Rattle.document.proofs.fill.fill.Goals as goal
 pub returns-then-n-eq0 : goal.returns-then-n-eq0
 returns-then-n-eq0 c = nothing_filled _ c.args.n _ c.if-n-eq0.true
 
-pub fill-text-requires : goal.fill-text-requires
-fill-text-requires c =
+pub fill_text-requires : goal.fill_text-requires
+fill_text-requires c =
     record {
       shape = c.requires.shape;
       text = (in_use (held c.args.view.now) c.args.place c.args.offset c.args.n _ c.requires.count c.if-n-eq0.false, sym (c.in-Text.ensures ∙ ap (λ (r : RunRecord). kind_of r.kind) c.run-run.ensures));
       room = (has_room (held c.args.view.now) c.args.place c.args.offset c.args.n _ c.requires.count, in_units (held c.args.view.now) c.args.place c.args.offset c.args.n _ c.requires.count c.if-n-eq0.false);
     }
 
-pub overflow-cast-l : goal.overflow-cast-l
-overflow-cast-l c = omega (arith, found_below _ _ c.in-Some.l c.in-Some.ensures (few (held c.args.view.now) (passing_from (held c.args.view.now) c.requires.shape).counts).lists)
+pub overflow_cast-l : goal.overflow_cast-l
+overflow_cast-l c = omega (arith, found_below _ _ c.in-Some.l c.in-Some.ensures (few (held c.args.view.now) (passing_from (held c.args.view.now) c.requires.shape).counts).lists)
 
-pub returns-in-default : goal.returns-in-default
-returns-in-default c =
+pub returns-in_default : goal.returns-in_default
+returns-in_default c =
     absurd
     (holds_some (held c.args.view.now) (passing_from (held c.args.view.now) c.requires.shape) c.args.place (in_use (held c.args.view.now) c.args.place c.args.offset c.args.n _ c.requires.count c.if-n-eq0.false)
     (sym (c.in-List.ensures ∙ ap (λ (r : RunRecord). kind_of r.kind) c.run-run.ensures))
-    (ap (λ (r : RunRecord). first_bad (failing (held_by_at (held c.args.view.now) r.id)) (length (held c.args.view.now).lists)) (sym c.run-run.ensures) ∙ sym c.in-default.ensures))
+    (ap (λ (r : RunRecord). first_bad (failing (held_by_at (held c.args.view.now) r.id)) (length (held c.args.view.now).lists)) (sym c.run-run.ensures) ∙ sym c.in_default.ensures))

@@ -4,14 +4,14 @@ use Rattle.document.specs.PassingFacts.{passing_from}
 use Rattle.document.proofs.TextRuns.{in_bytes, in_run, by_bytes, is_spelled, is_enough, is_small}
 use Rattle.document.proofs.fill.fill_text.Goals as goal
 
-pub overflow-add-entry : goal.overflow-add-entry
-overflow-add-entry c = omega (arith, in_bytes (held c.args.view.now) (passing_from (held c.args.view.now) c.requires.shape) c.args.place c.requires.text.0 c.requires.text.1 c.args.offset c.args.n c.requires.room.1 c.run-run.result c.entry-entry.result c.run-run.ensures c.entry-entry.ensures, in_run (held c.args.view.now) (passing_from (held c.args.view.now) c.requires.shape) c.args.place c.requires.text.0 c.requires.text.1 c.args.offset c.args.n c.requires.room.1 c.run-run.result c.entry-entry.result c.run-run.ensures c.entry-entry.ensures c.if-entry-run.true)
+pub overflow_add-entry : goal.overflow_add-entry
+overflow_add-entry c = omega (arith, in_bytes (held c.args.view.now) (passing_from (held c.args.view.now) c.requires.shape) c.args.place c.requires.text.0 c.requires.text.1 c.args.offset c.args.n c.requires.room.1 c.run-run.result c.entry-entry.result c.run-run.ensures c.entry-entry.ensures, in_run (held c.args.view.now) (passing_from (held c.args.view.now) c.requires.shape) c.args.place c.requires.text.0 c.requires.text.1 c.args.offset c.args.n c.requires.room.1 c.run-run.result c.entry-entry.result c.run-run.ensures c.entry-entry.ensures c.if-entry-run.true)
 
-pub fill-bytes-requires : goal.fill-bytes-requires
-fill-bytes-requires c = (c.requires.room.0, omega (arith, in_bytes (held c.args.view.now) (passing_from (held c.args.view.now) c.requires.shape) c.args.place c.requires.text.0 c.requires.text.1 c.args.offset c.args.n c.requires.room.1 c.run-run.result c.entry-entry.result c.run-run.ensures c.entry-entry.ensures, in_run (held c.args.view.now) (passing_from (held c.args.view.now) c.requires.shape) c.args.place c.requires.text.0 c.requires.text.1 c.args.offset c.args.n c.requires.room.1 c.run-run.result c.entry-entry.result c.run-run.ensures c.entry-entry.ensures c.if-entry-run.true))
+pub fill_bytes-requires : goal.fill_bytes-requires
+fill_bytes-requires c = (c.requires.room.0, omega (arith, in_bytes (held c.args.view.now) (passing_from (held c.args.view.now) c.requires.shape) c.args.place c.requires.text.0 c.requires.text.1 c.args.offset c.args.n c.requires.room.1 c.run-run.result c.entry-entry.result c.run-run.ensures c.entry-entry.ensures, in_run (held c.args.view.now) (passing_from (held c.args.view.now) c.requires.shape) c.args.place c.requires.text.0 c.requires.text.1 c.args.offset c.args.n c.requires.room.1 c.run-run.result c.entry-entry.result c.run-run.ensures c.entry-entry.ensures c.if-entry-run.true))
 
-pub fill-characters-requires : goal.fill-characters-requires
-fill-characters-requires c = record { spelled = is_spelled (held c.args.view.now) (passing_from (held c.args.view.now) c.requires.shape) c.args.place c.requires.text.0 c.requires.text.1 c.args.offset c.args.n c.requires.room.1 c.run-run.result c.entry-entry.result c.run-run.ensures c.entry-entry.ensures _ c.bytes-of.ensures; room = (c.requires.room.0, (is_enough (held c.args.view.now) (passing_from (held c.args.view.now) c.requires.shape) c.args.place c.requires.text.0 c.requires.text.1 c.args.offset c.args.n c.requires.room.1 c.run-run.result c.entry-entry.result c.run-run.ensures c.entry-entry.ensures _ c.bytes-of.ensures, is_small (held c.args.view.now) (passing_from (held c.args.view.now) c.requires.shape) c.args.place c.requires.text.0 c.requires.text.1 c.args.offset c.args.n c.requires.room.1 c.run-run.result c.entry-entry.result c.run-run.ensures c.entry-entry.ensures _ c.bytes-of.ensures)) }
+pub fill_characters-requires : goal.fill_characters-requires
+fill_characters-requires c = record { spelled = is_spelled (held c.args.view.now) (passing_from (held c.args.view.now) c.requires.shape) c.args.place c.requires.text.0 c.requires.text.1 c.args.offset c.args.n c.requires.room.1 c.run-run.result c.entry-entry.result c.run-run.ensures c.entry-entry.ensures _ c.bytes_of.ensures; room = (c.requires.room.0, (is_enough (held c.args.view.now) (passing_from (held c.args.view.now) c.requires.shape) c.args.place c.requires.text.0 c.requires.text.1 c.args.offset c.args.n c.requires.room.1 c.run-run.result c.entry-entry.result c.run-run.ensures c.entry-entry.ensures _ c.bytes_of.ensures, is_small (held c.args.view.now) (passing_from (held c.args.view.now) c.requires.shape) c.args.place c.requires.text.0 c.requires.text.1 c.args.offset c.args.n c.requires.room.1 c.run-run.result c.entry-entry.result c.run-run.ensures c.entry-entry.ensures _ c.bytes_of.ensures)) }
 
 pub returns-then-entry-run : goal.returns-then-entry-run
-returns-then-entry-run c = by_bytes (held c.args.view.now) (passing_from (held c.args.view.now) c.requires.shape) c.args.place c.requires.text.0 c.requires.text.1 c.args.offset c.args.n c.requires.room.1 c.run-run.result c.entry-entry.result c.run-run.ensures c.entry-entry.ensures _ _ c.if-entry-run.true c.fill-bytes.ensures
+returns-then-entry-run c = by_bytes (held c.args.view.now) (passing_from (held c.args.view.now) c.requires.shape) c.args.place c.requires.text.0 c.requires.text.1 c.args.offset c.args.n c.requires.room.1 c.run-run.result c.entry-entry.result c.run-run.ensures c.entry-entry.ensures _ _ c.if-entry-run.true c.fill_bytes.ensures

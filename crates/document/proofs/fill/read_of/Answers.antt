@@ -7,4 +7,4 @@ use Rattle.document.proofs.Readings.{read_is}
 use Rattle.document.proofs.fill.read_of.Goals as goal
 
 pub returns : goal.returns
-returns c = read_is (held c.args.view.now) (passing_from (held c.args.view.now) c.requires) c.args.place c.args.offset c.count-from-n.result _ _ (c.count-from-n.ensures ∙ ap (λ (r : RunRecord). count_from r c.args.offset (length c.args.slots.now)) c.run.ensures) c.fill.ensures
+returns c = read_is (held c.args.view.now) (passing_from (held c.args.view.now) c.requires) c.args.place c.args.offset c.count_from-n.result _ _ (c.count_from-n.ensures ∙ ap (λ (r : RunRecord). count_from r c.args.offset (length c.args.slots.now)) c.run.ensures) c.fill.ensures

@@ -9,7 +9,7 @@ loop-i-init c = sym (due_none (held c.args.view.now) c.args.client c.args.clock)
 
 pub loop-i-preserved : goal.loop-i-preserved
 loop-i-preserved c =
-    c.next-due-best.ensures
+    c.next_due-best.ensures
     ∙ ap (λ (o : Option ℕ). next_due (held c.args.view.now) c.args.client c.args.clock o c.loop-i.i) c.loop-i.invariant
     ∙ sym (due_more (held c.args.view.now) c.args.client c.args.clock c.loop-i.i)
 

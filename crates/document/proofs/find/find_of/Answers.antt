@@ -12,11 +12,11 @@ use Rattle.document.proofs.find.find_of.Goals as goal
 pub returns-in-None : goal.returns-in-None
 returns-in-None c = found_none (held c.args.view.now) (sound_from (held c.args.view.now) c.requires) c.args.id (sym c.in-None.ensures)
 
-pub overflow-cast-result : goal.overflow-cast-result
-overflow-cast-result c = omega (arith, found_below _ _ c.in-Some.i c.in-Some.ensures (few (held c.args.view.now) (passing_from (held c.args.view.now) c.requires).counts).runs)
+pub overflow_cast-result : goal.overflow_cast-result
+overflow_cast-result c = omega (arith, found_below _ _ c.in-Some.i c.in-Some.ensures (few (held c.args.view.now) (passing_from (held c.args.view.now) c.requires).counts).runs)
 
-pub overflow-sub-result : goal.overflow-sub-result
-overflow-sub-result c = omega (arith, (found_has (held c.args.view.now) (sound_from (held c.args.view.now) c.requires) c.args.id c.in-Some.i (sym c.in-Some.ensures)).1.from, ap (λ (r : RunRecord). r.id.clock) c.run-run.ensures)
+pub overflow_sub-result : goal.overflow_sub-result
+overflow_sub-result c = omega (arith, (found_has (held c.args.view.now) (sound_from (held c.args.view.now) c.requires) c.args.id c.in-Some.i (sym c.in-Some.ensures)).1.from, ap (λ (r : RunRecord). r.id.clock) c.run-run.ensures)
 
 pub returns-in-None-list : goal.returns-in-None-list
 returns-in-None-list c = found_apart (held c.args.view.now) (sound_from (held c.args.view.now) c.requires) c.args.id c.in-Some.i (sym c.in-Some.ensures) (sym (ap (λ (r : RunRecord). r.list) c.run-run.ensures) ∙ c.in-None-list.is)

@@ -10,7 +10,7 @@ use Rattle.edit.proofs.create.create.Goals as goal
 pub returns : goal.returns
 returns c =
     let t : Contents = all_of c.args.tables.now in
-    let none = c.in-default.ensures in
+    let none = c.in_default.ensures in
     let room = has_room (length t.all.lists) c.args.roots (sym none) in
     let e = ap (λ (hs : List ListRecord). record { all = record { runs = t.all.runs; lists = hs; clients = t.all.clients; entries = t.all.entries; bytes = t.all.bytes }; run_count = 0; list_count = c.args.roots; client_count = 0; entry_count = 0; byte_count = 0 }) c.root.ensures in
     record {

@@ -5,7 +5,7 @@ use Rattle.history.proofs.mark.moved.Goals as goal
 pub returns : goal.returns
 returns g c =
     record {
-      resolves = c.get-offset.ensures;
-      moves = λ o limits e. pile_moves (g.R.Reader.layers c.args.reader.now) (g.R.Reader.meaning c.args.reader.now) o limits c.args.id c.args.assoc _ e c.get-offset.ensures;
+      resolves = c.get_offset.ensures;
+      moves = λ o limits e. pile_moves (g.R.Reader.layers c.args.reader.now) (g.R.Reader.meaning c.args.reader.now) o limits c.args.id c.args.assoc _ e c.get_offset.ensures;
       lasts = units_last;
     }

@@ -7,11 +7,11 @@ use Rattle.links.proofs.agree.first_client.Goals as goal
 pub loop-i-init : goal.loop-i-init
 loop-i-init c = none_zero _
 
-pub returns-then-not-client-agrees : goal.returns-then-not-client-agrees
-returns-then-not-client-agrees c = sym (found (client_agrees_at (held c.args.view.now)) _ c.loop-i.i c.loop-i.invariant (sym c.if-not-client-agrees.ensures) c.loop-i-test.true)
+pub returns-then-not-client_agrees : goal.returns-then-not-client_agrees
+returns-then-not-client_agrees c = sym (found (client_agrees_at (held c.args.view.now)) _ c.loop-i.i c.loop-i.invariant (sym c.if-not-client_agrees.ensures) c.loop-i-test.true)
 
 pub loop-i-preserved : goal.loop-i-preserved
-loop-i-preserved c = none_more (client_agrees_at (held c.args.view.now)) c.loop-i.i c.loop-i.invariant (sym c.if-not-client-agrees.ensures)
+loop-i-preserved c = none_more (client_agrees_at (held c.args.view.now)) c.loop-i.i c.loop-i.invariant (sym c.if-not-client_agrees.ensures)
 
 pub returns : goal.returns
 returns c = sym (none_end (client_agrees_at (held c.args.view.now)) _ c.loop-i.i c.loop-i.invariant c.loop-i.auto.i-end c.loop-i-test.false)

@@ -5,10 +5,10 @@ use Rattle.sticky_index.specs.Marks.{held_in}
 use Rattle.sticky_index.proofs.Holders.{no_list_shown, holds_not, holds_shown, holds_dark}
 use Rattle.sticky_index.proofs.resolve.held_list.Goals as goal
 
-pub returns-in-default : goal.returns-in-default
-returns-in-default g c =
+pub returns-in_default : goal.returns-in_default
+returns-in_default g c =
     let s = c.args.reader.now in
-    holds_not _ _ (g.R.Reader.lawful s) (g.R.Reader.settled s) c.args.seat c.in-default.not-List
+    holds_not _ _ (g.R.Reader.lawful s) (g.R.Reader.settled s) c.args.seat c.in_default.not-List
 
 pub returns-in-None-show : goal.returns-in-None-show
 returns-in-None-show g c =
@@ -20,7 +20,7 @@ returns-in-List-value g c =
     let s = c.args.reader.now in
     holds_shown _ _ (g.R.Reader.lawful s) (g.R.Reader.settled s) (g.R.Reader.shown s) c.args.seat c.in-List.is c.in-Some.slot c.in-Some.ensures c.in-Some-show.value _ c.in-Some-show.ensures (ap (λ (v : Value). held_in (face v)) (sym c.in-List-value.is))
 
-pub returns-in-default-value : goal.returns-in-default-value
-returns-in-default-value g c =
+pub returns-in_default-value : goal.returns-in_default-value
+returns-in_default-value g c =
     let s = c.args.reader.now in
-    holds_shown _ _ (g.R.Reader.lawful s) (g.R.Reader.settled s) (g.R.Reader.shown s) c.args.seat c.in-List.is c.in-Some.slot c.in-Some.ensures c.in-Some-show.value _ c.in-Some-show.ensures (no_list_shown c.in-Some-show.value c.in-default-value.not-List)
+    holds_shown _ _ (g.R.Reader.lawful s) (g.R.Reader.settled s) (g.R.Reader.shown s) c.args.seat c.in-List.is c.in-Some.slot c.in-Some.ensures c.in-Some-show.value _ c.in-Some-show.ensures (no_list_shown c.in-Some-show.value c.in_default-value.not-List)

@@ -6,18 +6,18 @@ use Rattle.sticky_index.proofs.walk.walk_to.Goals as goal
 pub loop-at-init : goal.loop-at-init
 loop-at-init g c k b = (0, b, omega arith, refl)
 
-pub returns-in-default-describe : goal.returns-in-default-describe
-returns-in-default-describe g c k b =
+pub returns-in_default-describe : goal.returns-in_default-describe
+returns-in_default-describe g c k b =
     let s = c.args.reader.now in
     let st = g.R.Reader.stretch s in
     let m = g.R.Reader.meaning s in
     let i = c.loop-at.invariant k b in
-    absurd (on_none m st (g.R.Reader.lawful s) (g.R.Reader.settled s) c.in-Some.p k i.0 _ (subst (Onward m st k i.0) c.in-Some.is i.1) c.describe.ensures c.in-default-describe.is)
+    absurd (on_none m st (g.R.Reader.lawful s) (g.R.Reader.settled s) c.in-Some.p k i.0 _ (subst (Onward m st k i.0) c.in-Some.is i.1) c.describe.ensures c.in_default-describe.is)
 
-pub unit-of-requires : goal.unit-of-requires
-unit-of-requires g c =
+pub unit_of-requires : goal.unit_of-requires
+unit_of-requires g c =
     let s = c.args.reader.now in
-    unit_fits _ _ (g.R.Reader.lawful s) (g.R.Reader.settled s) c.in-Some.p c.loop-at.left c.in-Some-describe.run' c.in-Some-describe.ensures (less_than_len c.in-Some-describe.run' _ _ c.visible-in-n.ensures c.if-left-n.true)
+    unit_fits _ _ (g.R.Reader.lawful s) (g.R.Reader.settled s) c.in-Some.p c.loop-at.left c.in-Some-describe.run' c.in-Some-describe.ensures (less_than_len c.in-Some-describe.run' _ _ c.visible_in-n.ensures c.if-left-n.true)
 
 pub returns-then-left-n : goal.returns-then-left-n
 returns-then-left-n g c k b =
@@ -25,16 +25,16 @@ returns-then-left-n g c k b =
     let st = g.R.Reader.stretch s in
     let m = g.R.Reader.meaning s in
     let i = c.loop-at.invariant k b in
-    on_unit m st (g.R.Reader.lawful s) (g.R.Reader.settled s) c.in-Some.p c.in-Some-describe.run' k i.0 c.loop-at.left c.args.index c.visible-in-n.result c.unit_of.result
-    (subst (Onward m st k i.0) c.in-Some.is i.1) c.in-Some-describe.ensures i.2 c.visible-in-n.ensures c.if-left-n.true c.unit_of.ensures
+    on_unit m st (g.R.Reader.lawful s) (g.R.Reader.settled s) c.in-Some.p c.in-Some-describe.run' k i.0 c.loop-at.left c.args.index c.visible_in-n.result c.unit_of.result
+    (subst (Onward m st k i.0) c.in-Some.is i.1) c.in-Some-describe.ensures i.2 c.visible_in-n.ensures c.if-left-n.true c.unit_of.ensures
 
-pub overflow-sub-run : goal.overflow-sub-run
-overflow-sub-run g c =
+pub overflow_sub-run : goal.overflow_sub-run
+overflow_sub-run g c =
     let s = c.args.reader.now in
     omega (arith, run_some _ _ (g.R.Reader.lawful s) (g.R.Reader.settled s) c.in-Some.p c.in-Some-describe.run' c.in-Some-describe.ensures)
 
-pub unit-of-requires-in-Some : goal.unit-of-requires-in-Some
-unit-of-requires-in-Some g c =
+pub unit_of-requires-in-Some : goal.unit_of-requires-in-Some
+unit_of-requires-in-Some g c =
     let s = c.args.reader.now in
     let some = run_some _ _ (g.R.Reader.lawful s) (g.R.Reader.settled s) c.in-Some.p c.in-Some-describe.run' c.in-Some-describe.ensures in
     unit_fits _ _ (g.R.Reader.lawful s) (g.R.Reader.settled s) c.in-Some.p (c.in-Some-describe.run'.len - 1) c.in-Some-describe.run' c.in-Some-describe.ensures (omega (arith, some))
@@ -51,8 +51,8 @@ loop-at-preserved g c k b =
     let st = g.R.Reader.stretch s in
     let m = g.R.Reader.meaning s in
     let i = c.loop-at.invariant k b in
-    on_last m st (g.R.Reader.lawful s) (g.R.Reader.settled s) c.in-Some.p c.in-Some-describe.run' k i.0 c.loop-at.left c.args.index c.visible-in-n.result c.unit-of-in-Some.result c.right_at.result
-    (subst (Onward m st k i.0) c.in-Some.is i.1) c.in-Some-describe.ensures i.2 c.visible-in-n.ensures c.if-left-n.false c.unit-of-in-Some.ensures c.right_at.ensures
+    on_last m st (g.R.Reader.lawful s) (g.R.Reader.settled s) c.in-Some.p c.in-Some-describe.run' k i.0 c.loop-at.left c.args.index c.visible_in-n.result c.unit_of-in-Some.result c.right_at.result
+    (subst (Onward m st k i.0) c.in-Some.is i.1) c.in-Some-describe.ensures i.2 c.visible_in-n.ensures c.if-left-n.false c.unit_of-in-Some.ensures c.right_at.ensures
 
 pub returns : goal.returns
 returns g c k b =
@@ -60,4 +60,4 @@ returns g c k b =
     let st = g.R.Reader.stretch s in
     let m = g.R.Reader.meaning s in
     let i = c.loop-at.invariant k b in
-    on_end m st (g.R.Reader.lawful s) (g.R.Reader.settled s) k i.0 c.loop-at.left c.args.index c.loop-at.last (subst (Onward m st k i.0) c.in-default.is i.1) i.2 i.3
+    on_end m st (g.R.Reader.lawful s) (g.R.Reader.settled s) k i.0 c.loop-at.left c.args.index c.loop-at.last (subst (Onward m st k i.0) c.in_default.is i.1) i.2 i.3

@@ -8,11 +8,11 @@ use Rattle.store.proofs.clocks.comes_after_some.Goals as goal
 pub loop-j-init : goal.loop-j-init
 loop-j-init c = none_zero _
 
-pub returns-then-comes-after : goal.returns-then-comes-after
-returns-then-comes-after c = sym (some_pass_found (comes_after_at (held c.args.view.now) c.args.i) _ c.loop-j.j c.loop-j.invariant (sym c.if-comes-after.ensures) c.loop-j-test.true)
+pub returns-then-comes_after : goal.returns-then-comes_after
+returns-then-comes_after c = sym (some_pass_found (comes_after_at (held c.args.view.now) c.args.i) _ c.loop-j.j c.loop-j.invariant (sym c.if-comes_after.ensures) c.loop-j-test.true)
 
 pub loop-j-preserved : goal.loop-j-preserved
-loop-j-preserved c = none_more (failing (comes_after_at (held c.args.view.now) c.args.i)) c.loop-j.j c.loop-j.invariant (ap not (sym c.if-comes-after.ensures))
+loop-j-preserved c = none_more (failing (comes_after_at (held c.args.view.now) c.args.i)) c.loop-j.j c.loop-j.invariant (ap not (sym c.if-comes_after.ensures))
 
 pub returns : goal.returns
 returns c = sym (some_pass_end (comes_after_at (held c.args.view.now) c.args.i) _ c.loop-j.j c.loop-j.invariant c.loop-j.auto.j-end c.loop-j-test.false)

@@ -7,11 +7,11 @@ use Rattle.store.proofs.ranges.first_client.Goals as goal
 pub loop-i-init : goal.loop-i-init
 loop-i-init c = none_zero _
 
-pub returns-then-not-client-fits : goal.returns-then-not-client-fits
-returns-then-not-client-fits c = sym (found (client_fits_at (held c.args.view.now)) _ c.loop-i.i c.loop-i.invariant (sym c.if-not-client-fits.ensures) c.loop-i-test.true)
+pub returns-then-not-client_fits : goal.returns-then-not-client_fits
+returns-then-not-client_fits c = sym (found (client_fits_at (held c.args.view.now)) _ c.loop-i.i c.loop-i.invariant (sym c.if-not-client_fits.ensures) c.loop-i-test.true)
 
 pub loop-i-preserved : goal.loop-i-preserved
-loop-i-preserved c = none_more (client_fits_at (held c.args.view.now)) c.loop-i.i c.loop-i.invariant (sym c.if-not-client-fits.ensures)
+loop-i-preserved c = none_more (client_fits_at (held c.args.view.now)) c.loop-i.i c.loop-i.invariant (sym c.if-not-client_fits.ensures)
 
 pub returns : goal.returns
 returns c = sym (none_end (client_fits_at (held c.args.view.now)) _ c.loop-i.i c.loop-i.invariant c.loop-i.auto.i-end c.loop-i-test.false)

@@ -7,11 +7,11 @@ use Rattle.store.proofs.ranges.first_run.Goals as goal
 pub loop-i-init : goal.loop-i-init
 loop-i-init c = none_zero _
 
-pub returns-then-not-run-fits : goal.returns-then-not-run-fits
-returns-then-not-run-fits c = sym (found (run_fits_at (held c.args.view.now)) _ c.loop-i.i c.loop-i.invariant (sym c.if-not-run-fits.ensures) c.loop-i-test.true)
+pub returns-then-not-run_fits : goal.returns-then-not-run_fits
+returns-then-not-run_fits c = sym (found (run_fits_at (held c.args.view.now)) _ c.loop-i.i c.loop-i.invariant (sym c.if-not-run_fits.ensures) c.loop-i-test.true)
 
 pub loop-i-preserved : goal.loop-i-preserved
-loop-i-preserved c = none_more (run_fits_at (held c.args.view.now)) c.loop-i.i c.loop-i.invariant (sym c.if-not-run-fits.ensures)
+loop-i-preserved c = none_more (run_fits_at (held c.args.view.now)) c.loop-i.i c.loop-i.invariant (sym c.if-not-run_fits.ensures)
 
 pub returns : goal.returns
 returns c = sym (none_end (run_fits_at (held c.args.view.now)) _ c.loop-i.i c.loop-i.invariant c.loop-i.auto.i-end c.loop-i-test.false)

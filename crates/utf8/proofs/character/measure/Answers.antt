@@ -8,8 +8,8 @@ use Rattle.utf8.proofs.character.measure.Goals as goal
 pub returns-then-at-text : goal.returns-then-at-text
 returns-then-at-text c = nothing (rows c.args.planes) _ _ c.if-at-text.true
 
-pub returns-in-default : goal.returns-in-default
-returns-in-default c = no_character (rows c.args.planes) _ _ c.if-at-text.false c.in-default.ensures
+pub returns-in_default : goal.returns-in_default
+returns-in_default c = no_character (rows c.args.planes) _ _ c.if-at-text.false c.in_default.ensures
 
 pub returns-then-place-text : goal.returns-then-place-text
 returns-then-place-text c =

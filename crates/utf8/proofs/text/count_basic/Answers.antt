@@ -4,10 +4,10 @@ use Rattle.utf8.proofs.text.count_basic.Goals as goal
 
 pub returns : goal.returns
 returns c = record {
-  value = c.count-in.ensures.value;
-  means = c.count-in.ensures.means;
-  unique = c.count-in.ensures.unique;
-  sums = c.count-in.ensures.sums;
+  value = c.count_in.ensures.value;
+  means = c.count_in.ensures.means;
+  unique = c.count_in.ensures.unique;
+  sums = c.count_in.ensures.sums;
   short = short;
   encodings = basic_encodings;
 }

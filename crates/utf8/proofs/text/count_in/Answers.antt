@@ -10,30 +10,30 @@ use Rattle.utf8.proofs.text.count_in.Goals as goal
 pub loop-at-init : goal.loop-at-init
 loop-at-init c = none_yet (rows c.args.planes) c.args.text.now
 
-pub returns-in-err-length : goal.returns-in-err-length
-returns-in-err-length c =
-    let p = err_from_is_err_and c.from-residual.result c.from-residual.ensures.1 in
+pub returns-in_err-length : goal.returns-in_err-length
+returns-in_err-length c =
+    let p = err_from_is_err_and c.from_residual.result c.from_residual.ensures.1 in
     let is = p.1 ∙ ap Err p.2 in
     record {
-      value = stop_value c.args.planes c.args.text.now c.loop-at.at _ c.loop-at.count _ c.loop-at.invariant c.loop-at-test.true c.in-err-length.ensures is;
-      means = stop_means c.args.planes c.args.text.now c.loop-at.at _ c.loop-at.count _ c.loop-at.invariant c.loop-at-test.true c.in-err-length.ensures is;
+      value = stop_value c.args.planes c.args.text.now c.loop-at.at _ c.loop-at.count _ c.loop-at.invariant c.loop-at-test.true c.in_err-length.ensures is;
+      means = stop_means c.args.planes c.args.text.now c.loop-at.at _ c.loop-at.count _ c.loop-at.invariant c.loop-at-test.true c.in_err-length.ensures is;
       unique = unique (rows c.args.planes) (sound c.args.planes) c.args.text.now;
       sums = sums (rows c.args.planes) (sound c.args.planes) c.args.text.now;
     }
 
-pub overflow-add-at : goal.overflow-add-at
-overflow-add-at c = omega (arith, ends c.args.planes c.args.text.now c.loop-at.at _ c.in-ok-length.ensures)
+pub overflow_add-at : goal.overflow_add-at
+overflow_add-at c = omega (arith, ends c.args.planes c.args.text.now c.loop-at.at _ c.in_ok-length.ensures)
 
 pub loop-at-smaller : goal.loop-at-smaller
 loop-at-smaller c =
     omega (
       arith,
-      ends c.args.planes c.args.text.now c.loop-at.at _ c.in-ok-length.ensures,
-      some c.args.planes c.args.text.now c.loop-at.at _ c.in-ok-length.ensures,
+      ends c.args.planes c.args.text.now c.loop-at.at _ c.in_ok-length.ensures,
+      some c.args.planes c.args.text.now c.loop-at.at _ c.in_ok-length.ensures,
     )
 
 pub loop-at-preserved : goal.loop-at-preserved
-loop-at-preserved c = one_more c.args.planes c.args.text.now c.loop-at.at _ c.loop-at.count c.loop-at.invariant c.in-ok-length.ensures
+loop-at-preserved c = one_more c.args.planes c.args.text.now c.loop-at.at _ c.loop-at.count c.loop-at.invariant c.in_ok-length.ensures
 
 pub returns : goal.returns
 returns c = record {

@@ -7,8 +7,8 @@ use Rattle.utf8.proofs.text.locate.Goals as goal
 pub loop-init : goal.loop-init
 loop-init c = none_yet utf8_char c.args.text.now
 
-pub overflow-add-at : goal.overflow-add-at
-overflow-add-at c = omega (arith, ends All c.args.text.now c.loop.at _ c.in-Ok.ensures)
+pub overflow_add-at : goal.overflow_add-at
+overflow_add-at c = omega (arith, ends All c.args.text.now c.loop.at _ c.in-Ok.ensures)
 
 pub returns-in-Err : goal.returns-in-Err
 returns-in-Err c = record {

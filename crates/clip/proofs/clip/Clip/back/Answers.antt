@@ -44,5 +44,5 @@ returns g c = λ l e o.
     let m = g.R.Reader.meaning s.below in
     let st = g.R.Reader.stretch s.below in
     let k = c.loop-at.invariant l e o in
-    let b = subst (Backward st l k.0) c.in-default.is k.1 in
+    let b = subst (Backward st l k.0) c.in_default.is k.1 in
     sym k.2 ∙ back_end (limit_of s.pairs) m st (g.R.Reader.settled s.below) l k.0 b

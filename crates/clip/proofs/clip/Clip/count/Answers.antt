@@ -6,8 +6,8 @@ use Rattle.clip.proofs.Walking.{on_less}
 use Rattle.clip.proofs.Counts.{counted_all, count_fits, count_step}
 use Rattle.clip.proofs.clip.Clip.count.Goals as goal
 
-pub overflow-add-n : goal.overflow-add-n
-overflow-add-n g c =
+pub overflow_add-n : goal.overflow_add-n
+overflow_add-n g c =
     let s = c.args.self.now in
     let m = g.R.Reader.meaning s.below in
     let st = g.R.Reader.stretch s.below in
@@ -40,5 +40,5 @@ returns g c =
     let m = g.R.Reader.meaning s.below in
     let st = g.R.Reader.stretch s.below in
     let k = c.loop-at.invariant in
-    let b = subst (Onward m st c.args.list k.0) c.in-default.is k.1 in
+    let b = subst (Onward m st c.args.list k.0) c.in_default.is k.1 in
     k.2 ∙ counted_all (limit_of s.pairs) m c.args.list k.0 b

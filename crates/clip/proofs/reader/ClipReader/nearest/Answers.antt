@@ -8,10 +8,10 @@ returns-then-limit-clock g c =
     let s = c.args.self.now in
     nearest_past (limit_of s.pairs) (g.R.Reader.meaning s.below) (g.R.Reader.stretch s.below) (g.R.Reader.settled s.below) c.args.client c.args.clock (subst (λ x. x ≤ c.args.clock) c.limit.ensures c.if-limit-clock.true)
 
-pub returns-in-default : goal.returns-in-default
-returns-in-default g c =
+pub returns-in_default : goal.returns-in_default
+returns-in_default g c =
     let s = c.args.self.now in
-    nearest_none (limit_of s.pairs) (g.R.Reader.meaning s.below) (g.R.Reader.stretch s.below) (g.R.Reader.settled s.below) c.args.client c.args.clock c.in-default.ensures
+    nearest_none (limit_of s.pairs) (g.R.Reader.meaning s.below) (g.R.Reader.stretch s.below) (g.R.Reader.settled s.below) c.args.client c.args.clock c.in_default.ensures
 
 pub returns-then-shows : goal.returns-then-shows
 returns-then-shows g c =

@@ -3,5 +3,5 @@ use Rattle.store.specs.Records.{held}
 use Rattle.document.specs.PassingFacts.{accepts_none}
 use Rattle.document.proofs.document.Document.examine.Goals as goal
 
-pub invariant-of-result : goal.invariant-of-result
-invariant-of-result c = (accepts_none (held c.args.view.now) (sym c.in-None.ensures), tt)
+pub invariant_of-result : goal.invariant_of-result
+invariant_of-result c = (accepts_none (held c.args.view.now) (sym c.in-None.ensures), tt)

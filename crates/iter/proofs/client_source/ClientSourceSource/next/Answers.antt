@@ -3,8 +3,8 @@ use Rattle.iter.proofs.Chains.{run_known, run_fits}
 use Rattle.iter.proofs.Clocks.{first_by_clock, ends_by_clock, clock_rises}
 use Rattle.iter.proofs.client_source.ClientSourceSource.next.Goals as goal
 
-pub overflow-add-self : goal.overflow-add-self
-overflow-add-self g c =
+pub overflow_add-self : goal.overflow_add-self
+overflow_add-self g c =
     let reader = c.args.self.now.reader in
     let (some, known) = run_known (g.R.Reader.meaning reader) (g.R.Reader.stretch reader) (g.R.Reader.settled reader) (g.R.Reader.lawful reader) c.in-Some.place c.in-Some-describe.about c.in-Some-describe.ensures in
     omega (arith, (g.R.Reader.lawful reader).small c.in-Some-describe.about.id.client)
