@@ -9,7 +9,7 @@ use Rattle.block.specs.Units.{Meaning, Stretch, UnitOf, Worth, no_unit, seen}
 use Rattle.block.specs.Values.{facet}
 use Rattle.reader.specs.Answers.{faces}
 use Rattle.block_iter.specs.declared.block_iter.BlockIter.{BlockIter}
-use Rattle.block_iter.specs.Cursors.{Sound, Same, Moved, Next, answer, visible_of}
+use Rattle.block_iter.specs.Cursors.{Sound, Same, Moved, Next, visible_of}
 use Rattle.block_iter.proofs.Moves.{allowed, denied}
 use Rattle.block_iter.proofs.Performs.{same_visible}
 use Rattle.array.specs.Arrays.{element, SlotOf, Yields}

@@ -1,5 +1,5 @@
 -- A list as an array of values: those of its visible units, counted from 0.
-use Rattle.std.specs.Prelude.{◌≡◌, ℕ, zero, suc, ◌+◌, min, List, [], ◌∷◌, length, Some, None, Ok, Err, Option, Result}
+use Rattle.std.specs.Prelude.{◌≡◌, ℕ, zero, suc, ◌+◌, min, List, [], ◌∷◌, length, Some, None, Option}
 use Rattle.block.specs.declared.kind.Kind.{Kind}
 use Rattle.block.specs.declared.slot.Slot.{Slot}
 use Rattle.block.specs.declared.slot.Value.{Value}
@@ -7,7 +7,7 @@ use Rattle.block.specs.Units.{Meaning, Stretch, UnitOf, Worth}
 use Rattle.block.specs.Values.{facet}
 use Rattle.reader.specs.Answers.{faces}
 use Rattle.block_iter.specs.declared.block_iter.BlockIter.{BlockIter}
-use Rattle.block_iter.specs.Cursors.{Sound, Same, visible_of}
+use Rattle.block_iter.specs.Cursors.{Sound, visible_of}
 
 -- what element i shows; none from the length on
 abbrev pub element : List UnitOf → ℕ → Option (Kind × Worth)

@@ -1,5 +1,5 @@
 -- The visible units of a part of a list whose units are all visible, or all hidden.
-use Rattle.std.proofs.Common.{◌≡◌, ℕ, zero, suc, ◌+◌, ◌<◌, ◌≤◌, Bool, true, false, cond, List, [], ◌∷◌, length, get_or, take, drop, sym, refl, ap, ◌∙◌, subst, add_assoc, arith, get_or-drop, drop-drop}
+use Rattle.std.proofs.Common.{◌≡◌, ℕ, zero, suc, ◌+◌, ◌<◌, ◌≤◌, Bool, true, false, cond, List, [], ◌∷◌, get_or, take, drop, sym, refl, ap, ◌∙◌, subst, add_assoc, arith, get_or-drop, drop-drop}
 use Rattle.block.specs.Units.{UnitOf, Meaning, Stretch, RunOf, unit_at, no_unit, visible, seen}
 
 -- the first k units are all visible

@@ -1,5 +1,4 @@
 -- What a unit shows a reader: its kind and what it is worth.
-use Rattle.std.specs.Prelude.{ℕ, List}
 use Rattle.block.specs.declared.kind.Kind.{Kind}
 use Rattle.block.specs.declared.kind.Kind.TheVariants as kinds
 use Rattle.block.specs.declared.slot.Value.{Value}

@@ -1,5 +1,5 @@
 -- One run read, whole or in part, and slots that are filled run by run.
-use Rattle.std.proofs.Common.{◌≡◌, ℕ, ◌+◌, ◌-◌, ◌<◌, ◌≤◌, min, Bool, true, false, cond, ◌&&◌, List, [], ◌++◌, map, length, take, drop, Some, None, Option, sym, refl, ap, ◌∙◌, subst, arith, length-drop, length-take, take_all, take-add}
+use Rattle.std.proofs.Common.{◌≡◌, ℕ, ◌+◌, ◌-◌, ◌<◌, ◌≤◌, min, Bool, true, false, ◌&&◌, List, [], ◌++◌, map, length, take, drop, Some, None, Option, sym, refl, ap, ◌∙◌, subst, arith, length-drop, length-take, take_all, take-add}
 use mathlib.Core.List.{map-append}
 use lib.Seq.{take-append-add, take-append-le}
 use borrow.Rule.Slice.PartMut.{put_mid, post_of}
@@ -7,12 +7,12 @@ use Rattle.std.proofs.lemmas.Bool.{and_parts, cond-true}
 use Rattle.block.specs.declared.kind.Kind.{Kind}
 use Rattle.block.specs.declared.slot.Slot.{Slot}
 use Rattle.block.specs.Kinds.{is_counted}
-use Rattle.block.specs.Units.{UnitOf, Worth, Meaning, Stretch, RunOf, unit_at, visible, seen}
+use Rattle.block.specs.Units.{UnitOf, Worth, Meaning, Stretch, RunOf, unit_at, visible}
 use Rattle.block.specs.Values.{facet}
 use Rattle.block.proofs.Seen.{run_take}
 use Rattle.reader.specs.declared.reader.Description.{Description}
 use Rattle.reader.specs.Answers.{Right, Described, described, Reads, valued, units_from}
-use Rattle.block_iter.specs.Walks.{Sees, Stepped, Shows, Took, Filled}
+use Rattle.block_iter.specs.Walks.{Sees, Stepped, Shows, Took}
 use Rattle.block_iter.proofs.Steps.{described_some, sees_at, step_inside, step_over, step_past, walk_more}
 
 put_front : (slots part : List Slot) (used k n : ℕ) → used ≤ length slots → n ≤ length part → take (used + n) (put_mid used k slots part) ≡ take used slots ++ take n part

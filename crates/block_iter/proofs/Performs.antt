@@ -1,7 +1,7 @@
 -- One call of a cursor goes as the plain cursor's.
-use Rattle.std.proofs.Common.{◌≡◌, ℕ, ◌+◌, ◌-◌, ◌<◌, ◌≤◌, true, false, ltb, List, [], ◌∷◌, ◌++◌, length, take, drop, is_ok, Ok, Err, Option, Result, sym, refl, ap, ◌∙◌, subst, inl, inr, append-nil, arith, length-append}
+use Rattle.std.proofs.Common.{◌≡◌, ℕ, ◌+◌, ◌<◌, ◌≤◌, false, ltb, List, [], ◌∷◌, ◌++◌, length, take, Ok, Err, Option, Result, sym, ap, ◌∙◌, subst, inl, inr, append-nil, arith, length-append}
 use borrow.Rule.Slice.PartMut.{put_mid}
-use Rattle.std.proofs.lemmas.Slice.{take-put_mid, drop-put_mid}
+use Rattle.std.proofs.lemmas.Slice.{take-put_mid}
 use Rattle.std.proofs.lemmas.Bool.{cases_lt, lt-ltb, le-ltb, cond-true, cond-false}
 use Rattle.block.specs.declared.call.Call.{Call}
 use Rattle.block.specs.declared.call.Call.TheVariants.{Skip, Read}
@@ -15,7 +15,7 @@ use Rattle.block.specs.Plain.{Plain, plain_call, refuse, accept, asked, shown_by
 use Rattle.block.proofs.Plains.{call_refused, call_accepted, length_next}
 use Rattle.block_iter.specs.declared.block_iter.BlockIter.{BlockIter}
 use Rattle.block_iter.specs.Walks.{Shows}
-use Rattle.block_iter.specs.Cursors.{Same, Moved, ShowsNext, answer, index_after, visible_of}
+use Rattle.block_iter.specs.Cursors.{Same, Moved, ShowsNext, answer, visible_of}
 use Rattle.block_iter.specs.Replays.{Matches, Performed, outcome_of}
 use Rattle.block_iter.proofs.Fills.{shows_both}
 use Rattle.block_iter.proofs.Moves.{denied}

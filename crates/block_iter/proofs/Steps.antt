@@ -1,5 +1,5 @@
 -- One run passed, whole or in part.
-use Rattle.std.proofs.Common.{◌≡◌, ℕ, ◌+◌, ◌-◌, ◌<◌, ◌≤◌, Bool, true, false, ◌&&◌, List, [], length, drop, Some, None, Option, sym, refl, ap, ◌∙◌, subst, add-zero, arith, drop-drop}
+use Rattle.std.proofs.Common.{◌≡◌, ℕ, ◌+◌, ◌-◌, ◌<◌, ◌≤◌, Bool, true, false, ◌&&◌, List, [], drop, Some, None, Option, sym, refl, ap, ◌∙◌, subst, add-zero, arith, drop-drop}
 use lib.Seq.{drop-nil}
 use Rattle.std.proofs.lemmas.List.{drop_all}
 use Rattle.block.specs.Kinds.{is_counted}

@@ -1,5 +1,5 @@
 -- What any calls of a cursor leave, by the plain cursor.
-use Rattle.std.specs.Prelude.{◌≡◌, ℕ, ◌+◌, ◌<◌, ◌≤◌, cond, List, [], ◌∷◌, ◌++◌, length, take, drop, Some, None, Ok, Err, Option, Result, nat_lt}
+use Rattle.std.specs.Prelude.{◌≡◌, ℕ, ◌+◌, ◌≤◌, cond, List, [], ◌∷◌, ◌++◌, length, take, drop, Some, None, Ok, Err, Option, Result, nat_lt}
 use Rattle.block.specs.declared.call.Call.{Call}
 use Rattle.block.specs.declared.call.Call.TheVariants.{Skip, Read}
 use Rattle.block.specs.declared.call.Outcome.{Outcome}

@@ -1,11 +1,10 @@
 -- A record that is put into a chain leaves the links in order, and the units where they were.
-use Rattle.std.proofs.Common.{◌≡◌, ℕ, zero, suc, ◌+◌, ◌-◌, ◌<◌, ◌≤◌, Bool, true, false, ◌||◌, eqb, ◌≢◌, ◌⊎◌, List, [], ◌∷◌, ◌++◌, length, is_some, Some, None, Option, sym, refl, ap, ◌∙◌, subst, inl, inr, ⊎_elim, append_assoc, add-zero, add-suc, suc-add, arith}
-use Rattle.std.proofs.lemmas.Bool.{cases_eq, cases_lt, eq-eqb}
+use Rattle.std.proofs.Common.{◌≡◌, ℕ, zero, suc, ◌+◌, ◌-◌, ◌<◌, ◌≤◌, Bool, true, false, ◌||◌, ◌≢◌, ◌⊎◌, List, [], ◌++◌, length, is_some, Some, None, Option, sym, refl, ap, ◌∙◌, subst, inl, inr, ⊎_elim, append_assoc, add-zero, arith}
+use Rattle.std.proofs.lemmas.Bool.{cases_eq, cases_lt}
 use Rattle.std.proofs.lemmas.List.{get_or_past}
 use Rattle.block.specs.Units.{UnitOf}
 use Rattle.store.specs.declared.records.ListRecord.{ListRecord}
 use Rattle.store.specs.Records.{Store, run_at, list_at, no_list}
-use Rattle.links.specs.Walks.{meets}
 use Rattle.document.specs.Meaning.{plus, upto, offset, units_of, spell, units_in}
 use Rattle.document.specs.Sound.{Linked}
 use Rattle.chain.specs.Chains.{Ends, spell_left, next, InList, Inserted}

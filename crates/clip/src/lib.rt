@@ -1,5 +1,6 @@
 #![tactic(auto)]
 
+pub mod answers;
 pub mod clip;
 pub mod count;
 pub mod join;
@@ -7,7 +8,6 @@ pub mod limit;
 pub mod made;
 pub mod pair;
 pub mod pairs;
-pub mod reader;
 #[cfg(test)]
 mod tests;
 pub mod walk;

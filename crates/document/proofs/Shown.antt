@@ -12,8 +12,8 @@ use Rattle.store.specs.FirstFacts.{none_all, found_within}
 use Rattle.store.specs.Kinds.{kind_of, is_single, entries_of}
 use Rattle.store.specs.Records.{Store, run_at, entry_at, bytes_of}
 use Rattle.links.specs.Links.{held_by_at, is_list}
-use Rattle.content.specs.Content.{is_text, is_count, spells, run_filled, entries_in}
-use Rattle.utf8.specs.Reading.{characters, counted}
+use Rattle.content.specs.Content.{is_text, is_count, spells, entries_in}
+use Rattle.utf8.specs.Reading.{characters}
 use Rattle.utf8.specs.Table.{utf8_char}
 use Rattle.utf8.specs.Texts.{Spelled}
 use Rattle.utf8.specs.declared.planes.Planes.TheVariants.{All}

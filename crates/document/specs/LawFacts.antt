@@ -1,5 +1,5 @@
 -- The laws of a reader, of a sound document.
-use Rattle.std.specs.Prelude.{◌≡◌, ℕ, zero, suc, ◌+◌, ◌-◌, ◌^◌, ◌<◌, ◌≤◌, Bool, true, false, ◌&&◌, ◌⊎◌, List, [], length, get_or, is_some, Some, None, Option, ◌==◌, nat_le, nat_lt, slice_index_or, refl}
+use Rattle.std.specs.Prelude.{◌≡◌, ℕ, zero, suc, ◌+◌, ◌-◌, ◌^◌, ◌<◌, ◌≤◌, Bool, true, false, ◌&&◌, List, [], length, get_or, is_some, Some, None, Option, ◌==◌, nat_le, nat_lt, slice_index_or, refl}
 use Rattle.std.proofs.Common.{sym, subst, ◌∙◌, ⊎_elim, add-zero, arith}
 use Rattle.std.proofs.Math.Path.{ap}
 use Rattle.std.specs.Option.{unwrap_or}
@@ -18,7 +18,6 @@ use Rattle.store.specs.First.{failing, passing}
 use Rattle.store.specs.FirstFacts.{none_all, found_within, found_fails, some_pass_some, only_one}
 use Rattle.store.specs.Kinds.{kind_of}
 use Rattle.store.specs.Records.{Store, run_at, list_at, no_list}
-use Rattle.links.specs.Walks.{is}
 use Rattle.links.specs.Links.{is_list, held_by_at, is_holder_at, holder_agrees}
 use Rattle.document.specs.Meaning.{list_held, worth_of, unit_of, spell, units_in, clock_in, meaning_of, upto, offset, stretch_of}
 use Rattle.document.specs.Sound.{Sound}

@@ -1,5 +1,5 @@
 -- The visible units of a list, by index and by walk.
-use Rattle.std.specs.Prelude.{◌≡◌, ℕ, zero, suc, ◌+◌, ◌-◌, ◌<◌, ◌≤◌, Bool, true, false, cond, not, ◌&&◌, ◌⊎◌, List, [], ◌++◌, map, length, get_or, drop, is_some, Some, None, Option, ◌==◌, nat_le, slice_index_or}
+use Rattle.std.specs.Prelude.{◌≡◌, ℕ, zero, suc, ◌+◌, ◌-◌, ◌<◌, ◌≤◌, Bool, true, false, cond, ◌&&◌, List, [], ◌++◌, map, length, get_or, drop, is_some, Some, None, Option, ◌==◌, nat_le, slice_index_or}
 use Rattle.std.proofs.Math.Path.{refl, sym, ap}
 use Rattle.std.proofs.Common.{subst, ◌∙◌, append_assoc, add-zero, zero-add, suc-add, arith, length-append}
 use Rattle.std.proofs.Math.Logic.{⊎_elim}
@@ -9,7 +9,7 @@ use Rattle.std.specs.Option.{unwrap_or}
 use Rattle.std.proofs.lemmas.Bool.{cases_eq, cases_lt, cases_Bool, eqb-true, eq-eqb, ne_eqb, le-leb, lt-leb, cond-true, cond-false}
 use Rattle.std.proofs.lemmas.List.{drop_all}
 use Rattle.block.specs.Kinds.{is_counted}
-use Rattle.block.specs.Units.{UnitOf, no_unit, visible, seen}
+use Rattle.block.specs.Units.{UnitOf, no_unit, seen}
 use Rattle.block.specs.declared.ids.Id.{Id}
 use Rattle.store.specs.declared.records.RunRecord.{RunRecord}
 use Rattle.store.specs.Kinds.{kind_of}

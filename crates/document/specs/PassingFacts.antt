@@ -8,7 +8,7 @@ use Rattle.store.specs.Clocks.{run_follows_at}
 use Rattle.store.specs.First.{first_bad}
 use Rattle.store.specs.FirstFacts.{none_all}
 use Rattle.store.specs.Limits.{counts_fit}
-use Rattle.store.specs.Ranges.{entry_fits, run_fits, run_fits_at, list_fits, list_fits_at, client_fits_at, entry_fits_at}
+use Rattle.store.specs.Ranges.{run_fits_at, list_fits_at, client_fits_at, entry_fits_at}
 use Rattle.store.specs.Records.{Store}
 use Rattle.links.specs.Links.{run_agrees_at, list_agrees_at, client_agrees_at}
 use Rattle.content.specs.Content.{run_filled_at, entry_serves_at, byte_serves_at}

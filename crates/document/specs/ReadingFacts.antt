@@ -12,7 +12,6 @@ use Rattle.store.specs.declared.records.ClientRecord.{ClientRecord}
 use Rattle.store.specs.declared.records.RunRecord.{RunRecord}
 use Rattle.store.specs.Kinds.{kind_of}
 use Rattle.store.specs.Records.{Store, run_at, list_at, no_run, no_client}
-use Rattle.links.specs.Walks.{is}
 use Rattle.document.specs.Meaning.{unit_of, units_of, spell, units_in, clock_in, meaning_of, upto, offset, stretched, stretch_of}
 use Rattle.document.specs.Sound.{Linked, Sound}
 use Rattle.document.specs.WalkFacts.{upto_step, walked, length_units}

@@ -8,7 +8,7 @@ use Rattle.store.specs.Clocks.{end_of, is_clear, is_clear_at}
 use Rattle.store.specs.First.{all_pass}
 use Rattle.store.specs.FirstFacts.{all_pass_all, some_pass_some}
 use Rattle.store.specs.Kinds.{kind_of, stands_apart, is_single}
-use Rattle.store.specs.Ranges.{in_use, id_fits, is_client, is_clock, numbers_fit, names_fit, entry_fits, is_placed, length_fits, run_fits, list_fits}
+use Rattle.store.specs.Ranges.{in_use, id_fits, is_client, is_clock, numbers_fit, names_fit, entry_fits, is_placed, length_fits, run_fits}
 use Rattle.store.specs.Records.{Store, run_at, list_at, client_at}
 use Rattle.links.specs.Lengths.{visible_sum, last_end}
 use Rattle.links.specs.Links.{is_list, holds_one, is_recorded, is_client_at, run_agrees_at, holder_agrees, list_agrees_at}

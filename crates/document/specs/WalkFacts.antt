@@ -5,7 +5,6 @@ use Rattle.std.proofs.lemmas.List.FromFn.{length-map-range_with_len}
 use Rattle.block.specs.Units.{UnitOf}
 use Rattle.store.specs.declared.records.RunRecord.{RunRecord}
 use Rattle.store.specs.Records.{Store, run_at, list_at}
-use Rattle.links.specs.Walks.{is}
 use Rattle.document.specs.Meaning.{unit_of, units_of, spell, plus, upto}
 use Rattle.document.specs.Sound.{Linked}
 

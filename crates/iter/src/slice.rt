@@ -1,12 +1,12 @@
-ghost use Rattle.std.specs.Prelude.{◌≡◌, ◌+◌, ◌-◌, ◌^◌, ◌<◌, ◌≤◌, false, not, ◌&&◌, if◌then◌else◌, MatchOption, ◌==◌, nat_lt};
+ghost use Rattle.std.specs.Prelude.{◌≡◌, ◌+◌, ◌-◌, ◌^◌, ◌<◌, ◌≤◌, false, not, ◌&&◌, if◌then◌else◌, MatchOption, ◌==◌, nat_lt, ⊤};
 ghost use Rattle.block.specs.Kinds.{is_counted};
 ghost use Rattle.iter.specs.Cuts.{is_part, id_in, has_id};
 
 use block::ids::Id;
 use reader::reader::Description;
+use std::alloc::AllocError;
 
 // A part of a run, from one offset to another, both included. It is never empty.
-#[derive(Clone, Copy)]
 pub struct ItemSlice<P> {
     pub place: P,
     pub run: Description,
@@ -16,6 +16,18 @@ pub struct ItemSlice<P> {
     ghost inside: { end < run.len },
     ghost short: { run.len < 2 ^ 32 },
     ghost fits: { run.id.clock + run.len ≤ 2 ^ 32 },
+}
+
+impl<P: Copy> Copy for ItemSlice<P> {}
+
+impl<P: Copy> Clone for ItemSlice<P> {
+    ghost is_clone = { λ x y. y ≡ x };
+
+    ghost is_infallible = { λ _. ⊤ };
+
+    fn clone(&self) -> Result<ItemSlice<P>, AllocError> {
+        Ok(*self)
+    }
 }
 
 impl<P: Copy> ItemSlice<P> {

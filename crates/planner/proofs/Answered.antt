@@ -1,5 +1,5 @@
 -- The steps behind a mark, by what a cursor answers.
-use Rattle.std.proofs.Common.{◌≡◌, ℕ, ◌+◌, ◌-◌, ◌<◌, ◌≤◌, min, List, length, Ok, Err, Option, Result, sym, refl, ap, ◌∙◌, subst, arith}
+use Rattle.std.proofs.Common.{◌≡◌, ℕ, ◌+◌, ◌-◌, ◌≤◌, min, List, length, Err, Option, Result, sym, ap, ◌∙◌, subst, arith}
 use borrow.Rule.Slice.PartMut.{put_mid}
 use Rattle.std.proofs.lemmas.Slice.{take-put_mid, drop-put_mid}
 use Rattle.std.proofs.lemmas.Bool.{le-ltb, cond-false}
@@ -10,7 +10,7 @@ use Rattle.block.specs.Units.{Meaning, Stretch, UnitOf, Worth, seen}
 use Rattle.block.specs.Plain.{next_units}
 use Rattle.block_iter.specs.declared.block_iter.BlockIter.{BlockIter}
 use Rattle.block_iter.specs.Walks.{Shows}
-use Rattle.block_iter.specs.Cursors.{Sound, Same, Moved, ShowsNext, answer, visible_of}
+use Rattle.block_iter.specs.Cursors.{Same, Moved, ShowsNext, visible_of}
 use Rattle.block_iter.proofs.Moves.{denied}
 use Rattle.block_iter.proofs.Performs.{same_visible}
 use Rattle.planner.specs.Steps.{Read_from}

@@ -1,5 +1,5 @@
 -- Where a mark stands, there is a list, and the index is within its length.
-use Rattle.std.proofs.Common.{◌≡◌, ℕ, zero, suc, ◌+◌, ◌<◌, ◌≤◌, Bool, true, false, cond, ltb, List, length, take, Some, None, Ok, Err, Option, Result, sym, refl, ap, ◌∙◌, subst, inl, inr, arith}
+use Rattle.std.proofs.Common.{◌≡◌, ℕ, zero, suc, ◌+◌, ◌<◌, ◌≤◌, true, false, cond, ltb, List, length, take, Some, None, Ok, Err, Option, Result, sym, refl, ap, ◌∙◌, subst, inl, inr, arith}
 use Rattle.std.proofs.lemmas.List.{take_all}
 use Rattle.std.proofs.lemmas.Bool.{cases_Bool, ltb-true, cond-true, cond-false}
 use Rattle.block.specs.declared.ids.Id.{Id}
@@ -9,14 +9,13 @@ use Rattle.block.specs.Values.{facet}
 use Rattle.block.specs.Kept.{spot_mono}
 use Rattle.block.specs.Lookup.{where_is, upheld}
 use Rattle.block.proofs.Lookups.{where_some}
-use Rattle.reader.specs.Answers.{no_list}
 use Rattle.sticky_index.specs.declared.index.Assoc.{Assoc}
 use Rattle.sticky_index.specs.declared.index.Assoc.TheVariants.{Before, After}
 use Rattle.sticky_index.specs.declared.index.IndexScope.{IndexScope}
 use Rattle.sticky_index.specs.declared.index.IndexScope.TheVariants.{Relative, Nested, Root}
 use Rattle.sticky_index.specs.declared.index.StickyIndex.{StickyIndex}
 use Rattle.sticky_index.specs.declared.index.Offset.{Offset}
-use Rattle.sticky_index.specs.Marks.{offset_of, scope_stop, unit_stop, nested_stop, held_stop, list_stop, root_stop, edge, index_at, reach, found, follow, landing, onto, if_there, held_in, stop}
+use Rattle.sticky_index.specs.Marks.{offset_of, scope_stop, unit_stop, nested_stop, held_stop, root_stop, edge, index_at, reach, found, follow, landing, onto, if_there, held_in, stop}
 
 never : {X : Type 0} (x : X) (e : Fault) → Err e ≡ Ok x → ⊥
 never x e p = let z : ◌≡◌ {A = ℕ} 0 1 = cc in omega arith

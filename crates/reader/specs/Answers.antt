@@ -1,5 +1,5 @@
 -- What a reader answers, by its meaning and by the stretches of its places.
-use Rattle.std.specs.Prelude.{◌≡◌, ℕ, ◌+◌, ◌-◌, ◌<◌, ◌≤◌, min, Bool, true, false, cond, List, [], map, length, take, drop, Some, None, Ok, Err, Option, Result, ◌≢◌, slice_index_or}
+use Rattle.std.specs.Prelude.{◌≡◌, ℕ, ◌+◌, ◌-◌, ◌<◌, ◌≤◌, min, cond, List, [], map, length, take, drop, Some, None, Ok, Err, Option, Result, ◌≢◌, slice_index_or}
 use Rattle.block.specs.declared.ids.Id.{Id}
 use Rattle.block.specs.declared.kind.Kind.{Kind}
 use Rattle.block.specs.declared.fault.Fault.{Fault}

@@ -1,12 +1,12 @@
 -- A mark that is made and resolved stands where it was made.
-use Rattle.std.proofs.Common.{◌≡◌, ℕ, zero, suc, ◌-◌, ◌<◌, min, true, false, not, length, get_or, is_some, Some, None, Ok, Err, Option, Result, sym, refl, ap, ◌∙◌, subst, inl, inr, add-one, arith}
+use Rattle.std.proofs.Common.{◌≡◌, ℕ, zero, suc, ◌<◌, min, true, false, not, length, get_or, is_some, Some, None, Ok, Err, Option, Result, sym, refl, ap, ◌∙◌, subst, inl, inr, add-one, arith}
 use Rattle.std.proofs.lemmas.Bool.{cases_lt, and_parts, cond-true, cond-false, lt-ltb, le-ltb, eq-eqb, ne_eqb, both_ways}
 use Rattle.block.specs.declared.ids.Id.{Id}
 use Rattle.block.specs.declared.fault.Fault.{Fault}
 use Rattle.block.specs.declared.fault.Code.TheVariants.{BeyondLength}
 use Rattle.block.specs.declared.fault.Spot.TheVariants as spots
 use Rattle.block.specs.declared.kind.Kind.TheVariants as kinds
-use Rattle.block.specs.Units.{Meaning, Lawful, UnitOf, Worth, nested, unit_at, no_unit, visible, seen}
+use Rattle.block.specs.Units.{Meaning, Lawful, UnitOf, Worth, unit_at, no_unit, visible, seen}
 use Rattle.block.specs.Kept.{kept_at, kept_from, spot_shown, spot_all}
 use Rattle.block.specs.Lookup.{where_is, live_at, redone_at, held_up, upheld, not_redone}
 use Rattle.block.proofs.Lookups.{where_at, where_some}

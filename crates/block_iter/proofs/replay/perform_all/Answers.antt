@@ -1,4 +1,4 @@
-use Rattle.std.proofs.Common.{◌≡◌, ◌≤◌, length, sym, refl, ◌∙◌, arith}
+use Rattle.std.proofs.Common.{◌∙◌, arith}
 use Rattle.block_iter.proofs.Replayed.{room_for, matches_more, outcomes_more, slots_behind, set_behind, all_played}
 use Rattle.block_iter.proofs.replay.perform_all.Goals as goal
 

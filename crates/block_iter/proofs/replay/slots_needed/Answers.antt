@@ -1,4 +1,4 @@
-use Rattle.std.proofs.Common.{◌≡◌, ℕ, List, length, sym, ap, ◌∙◌, take_all}
+use Rattle.std.proofs.Common.{List, length, sym, ap, ◌∙◌, take_all}
 use Rattle.std.proofs.lemmas.List.Sums.{fold_more}
 use Rattle.block.specs.declared.call.Call.{Call}
 use Rattle.block.specs.Plain.{Plain, plain_call, plain_start, plain_run}

@@ -12,9 +12,9 @@ pub loop-run-preserved : goal.loop-run-preserved
 loop-run-preserved c =
     let f = c.loop-run.invariant.0 in
     elim c.if-has_entry.branch [
-      | then-has_entry w ↦ (omega (arith, passing_yes (has_entry_at (held c.args.view.now) c.args.e) c.loop-run.run_index (sym w.if-has_entry.ensures), f, w.count-is), omega (arith, w.count-is))
-      | else-has_entry w ↦ (omega (arith, passing_no (has_entry_at (held c.args.view.now) c.args.e) c.loop-run.run_index (sym w.if-has_entry.ensures), f, w.count-is), omega (arith, w.count-is))
+      | then-has_entry w ↦ (omega (arith, passing_yes (has_entry_at (held c.args.view.now) c.args.e) c.loop-run.run-index (sym w.if-has_entry.ensures), f, w.count-is), omega (arith, w.count-is))
+      | else-has_entry w ↦ (omega (arith, passing_no (has_entry_at (held c.args.view.now) c.args.e) c.loop-run.run-index (sym w.if-has_entry.ensures), f, w.count-is), omega (arith, w.count-is))
     ]
 
 pub returns : goal.returns
-returns c = passing_end (has_entry_at (held c.args.view.now) c.args.e) _ c.loop-run.run_index c.loop-run.count c.loop-run.invariant.0 c.loop-run.auto.run-index-end c.loop-run-test.false
+returns c = passing_end (has_entry_at (held c.args.view.now) c.args.e) _ c.loop-run.run-index c.loop-run.count c.loop-run.invariant.0 c.loop-run.auto.run-index-end c.loop-run-test.false

@@ -24,4 +24,4 @@ returns-in-None-list c = found_apart (held c.args.view.now) (sound_from (held c.
 pub returns-in-Some-list : goal.returns-in-Some-list
 returns-in-Some-list c =
     subst (λ (r : RunRecord). Found (meaning_of (held c.args.view.now)) (stretch_of (held c.args.view.now)) c.args.id (Some (c.in-Some.i, c.args.id.clock - r.id.clock))) (sym c.run-run.ensures)
-    (found_some (held c.args.view.now) (sound_from (held c.args.view.now) c.requires) c.args.id c.in-Some.i c.in-Some-list.-l (sym c.in-Some.ensures) (sym (ap (λ (r : RunRecord). r.list) c.run-run.ensures) ∙ c.in-Some-list.is))
+    (found_some (held c.args.view.now) (sound_from (held c.args.view.now) c.requires) c.args.id c.in-Some.i c.in-Some-list._l (sym c.in-Some.ensures) (sym (ap (λ (r : RunRecord). r.list) c.run-run.ensures) ∙ c.in-Some-list.is))

@@ -23,7 +23,7 @@ loop-at-preserved c =
     let a = meets_on (held c.args.view.now) c.args.i c.in-Some.j c.loop-at.fuel c.if-fuel-eq0.false c.if-j-i.false in
     let e = c.in-Some.is in
     let b = c.loop-at.invariant in
-    let r = ap (λ (r : RunRecord). r.right) c.run_at.ensures in
+    let r = ap (λ (r : RunRecord). r.right) c.run-at.ensures in
     cc
 
 pub returns : goal.returns

@@ -1,8 +1,8 @@
-use Rattle.std.proofs.Common.{◌≡◌, ℕ, ◌-◌, ◌≤◌, min, length, take, drop, is_ok, sym, ap, ◌∙◌, subst, arith}
+use Rattle.std.proofs.Common.{◌≡◌, ◌-◌, min, length, take, drop, is_ok, sym, ap, ◌∙◌, arith}
 use borrow.Rule.Slice.PartMut.{mid_len}
 use Rattle.block.specs.Units.{seen}
 use Rattle.planner.proofs.Within.{offset_within}
-use Rattle.planner.proofs.Answered.{never_refused, never_short, shows_steps, read_from, seen_as}
+use Rattle.planner.proofs.Answered.{never_refused, shows_steps, read_from, seen_as}
 use Rattle.planner.proofs.planner.steps_from.Goals as goal
 
 pub returns-in-Err-open : goal.returns-in-Err-open

@@ -30,8 +30,8 @@ returns-in-None g c =
     let r = turn_done _ _ law settled (64 - c.loop-i.i) c.loop-i.seat c.loop-i.invariant.0 c.in-None.is in
     (r.0, far ∙ r.1, r.2)
 
-pub returns-in_err-seat-2 : goal.returns-in_err-seat-2
-returns-in_err-seat-2 g c =
+pub returns-in_err-seat-in-Some : goal.returns-in_err-seat-in-Some
+returns-in_err-seat-in-Some g c =
     let s = c.args.reader.now in
     let m = g.R.Reader.meaning s in
     let law = g.R.Reader.lawful s in
@@ -39,8 +39,8 @@ returns-in_err-seat-2 g c =
     let far = so_far _ _ law settled c.args.id c.in_ok-seat.seat _ _ c.in_ok-seat.ensures c.loop-i.invariant.1 in
     let n : suc (64 - (c.loop-i.i + 1)) ≡ 64 - c.loop-i.i = omega arith in
     let on = turn_on _ _ law settled (64 - (c.loop-i.i + 1)) c.loop-i.seat c.in-Some.next c.loop-i.invariant.0 c.in-Some.is ∙ ap (λ (k : ℕ). follow m k c.loop-i.seat.id) n in
-    let lost = turn_lost _ _ law settled (64 - (c.loop-i.i + 1)) c.in-Some.next _ c.in_err-seat-2.ensures in
-    let p = err_from_is_err_and c.from_residual-in_err-seat-2.result c.from_residual-in_err-seat-2.ensures.1 in
+    let lost = turn_lost _ _ law settled (64 - (c.loop-i.i + 1)) c.in-Some.next _ c.in_err-seat-in-Some.ensures in
+    let p = err_from_is_err_and c.from_residual-in_err-seat-in-Some.result c.from_residual-in_err-seat-in-Some.ensures.1 in
     rw (p.1, p.2) (far ∙ sym on ∙ lost)
 
 pub loop-i-preserved : goal.loop-i-preserved
@@ -50,8 +50,8 @@ loop-i-preserved g c =
     let st = g.R.Reader.stretch s in
     let law = g.R.Reader.lawful s in
     let settled = g.R.Reader.settled s in
-    let seat = c.in_ok-seat-2.seat in
-    let here = c.in_ok-seat-2.ensures in
+    let seat = c.in_ok-seat-in-Some.seat in
+    let here = c.in_ok-seat-in-Some.ensures in
     let same : seat.id ≡ c.in-Some.next = seat_id m st law settled c.in-Some.next seat here in
     let n : suc (64 - (c.loop-i.i + 1)) ≡ 64 - c.loop-i.i = omega arith in
     let on = turn_on _ _ law settled (64 - (c.loop-i.i + 1)) c.loop-i.seat c.in-Some.next c.loop-i.invariant.0 c.in-Some.is ∙ ap (λ (k : ℕ). follow m k c.loop-i.seat.id) n in

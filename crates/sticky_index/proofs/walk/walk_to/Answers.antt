@@ -42,8 +42,8 @@ unit_of-requires-in-Some g c =
 pub loop-at-smaller : goal.loop-at-smaller
 loop-at-smaller g c =
     let s = c.args.reader.now in
-    subst (λ x. to_go _ _ (g.R.Reader.lawful s) (g.R.Reader.settled s) c.right_at.result < to_go _ _ (g.R.Reader.lawful s) (g.R.Reader.settled s) x) (sym c.in-Some.is)
-    (on_less _ _ (g.R.Reader.lawful s) (g.R.Reader.settled s) c.in-Some.p c.right_at.result c.right_at.ensures)
+    subst (λ x. to_go _ _ (g.R.Reader.lawful s) (g.R.Reader.settled s) c.right-at.result < to_go _ _ (g.R.Reader.lawful s) (g.R.Reader.settled s) x) (sym c.in-Some.is)
+    (on_less _ _ (g.R.Reader.lawful s) (g.R.Reader.settled s) c.in-Some.p c.right-at.result c.right-at.ensures)
 
 pub loop-at-preserved : goal.loop-at-preserved
 loop-at-preserved g c k b =
@@ -51,8 +51,8 @@ loop-at-preserved g c k b =
     let st = g.R.Reader.stretch s in
     let m = g.R.Reader.meaning s in
     let i = c.loop-at.invariant k b in
-    on_last m st (g.R.Reader.lawful s) (g.R.Reader.settled s) c.in-Some.p c.in-Some-describe.run' k i.0 c.loop-at.left c.args.index c.visible_in-n.result c.unit_of-in-Some.result c.right_at.result
-    (subst (Onward m st k i.0) c.in-Some.is i.1) c.in-Some-describe.ensures i.2 c.visible_in-n.ensures c.if-left-n.false c.unit_of-in-Some.ensures c.right_at.ensures
+    on_last m st (g.R.Reader.lawful s) (g.R.Reader.settled s) c.in-Some.p c.in-Some-describe.run' k i.0 c.loop-at.left c.args.index c.visible_in-n.result c.unit_of-in-Some.result c.right-at.result
+    (subst (Onward m st k i.0) c.in-Some.is i.1) c.in-Some-describe.ensures i.2 c.visible_in-n.ensures c.if-left-n.false c.unit_of-in-Some.ensures c.right-at.ensures
 
 pub returns : goal.returns
 returns g c k b =

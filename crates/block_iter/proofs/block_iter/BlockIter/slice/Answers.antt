@@ -1,4 +1,4 @@
-use Rattle.std.proofs.Common.{refl, arith}
+use Rattle.std.proofs.Common.{refl}
 use Rattle.std.proofs.lemmas.Bool.{true≢false}
 use Rattle.block_iter.proofs.Moves.{filled, passed}
 use Rattle.block_iter.proofs.block_iter.BlockIter.slice.Goals as goal

@@ -21,8 +21,8 @@ loop-at-smaller g c =
     let s = c.args.self.now in
     let m = g.R.Reader.meaning s.below in
     let st = g.R.Reader.stretch s.below in
-    subst (λ x. to_go m st c.right_at.result < to_go m st x) (sym c.in-Some.is)
-    (on_less (limit_of s.pairs) m st (g.R.Reader.settled s.below) c.in-Some.p c.right_at.result c.right_at.ensures)
+    subst (λ x. to_go m st c.right-at.result < to_go m st x) (sym c.in-Some.is)
+    (on_less (limit_of s.pairs) m st (g.R.Reader.settled s.below) c.in-Some.p c.right-at.result c.right-at.ensures)
 
 pub loop-at-preserved : goal.loop-at-preserved
 loop-at-preserved g c =
@@ -31,7 +31,7 @@ loop-at-preserved g c =
     let st = g.R.Reader.stretch s.below in
     let k = c.loop-at.invariant in
     let b = subst (Onward m st c.args.list k.0) c.in-Some.is k.1 in
-    let n = count_step (limit_of s.pairs) m st (g.R.Reader.settled s.below) c.in-Some.p c.args.list k.0 c.loop-at.n c.right_at.result b k.2 c.right_at.ensures in
+    let n = count_step (limit_of s.pairs) m st (g.R.Reader.settled s.below) c.in-Some.p c.args.list k.0 c.loop-at.n c.right-at.result b k.2 c.right-at.ensures in
     (n.0, n.1, ap (λ x. c.loop-at.n + x) c.adds-n.ensures ∙ n.2)
 
 pub returns : goal.returns

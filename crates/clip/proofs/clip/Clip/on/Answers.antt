@@ -25,8 +25,8 @@ loop-at-smaller g c =
     let s = c.args.self.now in
     let m = g.R.Reader.meaning s.below in
     let st = g.R.Reader.stretch s.below in
-    subst (λ x. to_go m st c.right_at.result < to_go m st x) (sym c.in-Some.is)
-    (on_less (limit_of s.pairs) m st (g.R.Reader.settled s.below) c.in-Some.p c.right_at.result c.right_at.ensures)
+    subst (λ x. to_go m st c.right-at.result < to_go m st x) (sym c.in-Some.is)
+    (on_less (limit_of s.pairs) m st (g.R.Reader.settled s.below) c.in-Some.p c.right-at.result c.right-at.ensures)
 
 pub loop-at-preserved : goal.loop-at-preserved
 loop-at-preserved g c = λ l e o.
@@ -35,7 +35,7 @@ loop-at-preserved g c = λ l e o.
     let st = g.R.Reader.stretch s.below in
     let k = c.loop-at.invariant l e o in
     let b = subst (Onward m st l k.0) c.in-Some.is k.1 in
-    let n = on_hidden (limit_of s.pairs) m st (g.R.Reader.settled s.below) c.in-Some.p l k.0 c.right_at.result b (sym c.if-shows.ensures) c.right_at.ensures in
+    let n = on_hidden (limit_of s.pairs) m st (g.R.Reader.settled s.below) c.in-Some.p l k.0 c.right-at.result b (sym c.if-shows.ensures) c.right-at.ensures in
     (n.0, n.1, n.2 ∙ k.2)
 
 pub returns : goal.returns

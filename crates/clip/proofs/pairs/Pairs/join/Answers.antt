@@ -36,7 +36,7 @@ invariant_of-result c =
     let qs = pairs_of c.args.other in
     let e = turns_end ps qs c.loop-p.all c.loop-p.p-index c.loop-p.count c.loop-p-test.false c.loop-p.invariant in
     let few : c.loop-p.count ≤ 64 = omega (arith, length-take c.args.self.count c.args.self.pairs, c.args.self.few, c.loop-p.invariant.1, c.loop-p.auto.p-index-end) in
-    (few, (ap sound e ∙ sound_joined ps qs c.args.self.good, tt))
+    record { few = few; good = ap sound e ∙ sound_joined ps qs c.args.self.good }
 
 pub returns : goal.returns
 returns c =

@@ -1,7 +1,7 @@
 use Rattle.std.proofs.Common.{min, length, ap, ◌∙◌}
 use Rattle.clip.specs.Made.{limit_of}
 use Rattle.clip.proofs.Reading.{reads}
-use Rattle.clip.proofs.reader.ClipReader.read.Goals as goal
+use Rattle.clip.proofs.answers.ClipReader.read.Goals as goal
 
 pub returns : goal.returns
 returns g c =

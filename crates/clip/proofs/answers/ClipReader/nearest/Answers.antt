@@ -1,7 +1,7 @@
 use Rattle.std.proofs.Common.{◌<◌, ◌≤◌, sym, subst}
 use Rattle.clip.specs.Made.{limit_of}
 use Rattle.clip.proofs.Nearing.{nearest_past, nearest_none, nearest_shown, nearest_hidden}
-use Rattle.clip.proofs.reader.ClipReader.nearest.Goals as goal
+use Rattle.clip.proofs.answers.ClipReader.nearest.Goals as goal
 
 pub returns-then-limit-clock : goal.returns-then-limit-clock
 returns-then-limit-clock g c =

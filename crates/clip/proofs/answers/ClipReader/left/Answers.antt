@@ -1,7 +1,7 @@
 use Rattle.std.proofs.Common.{sym, ◌∙◌}
 use Rattle.clip.specs.Made.{limit_of}
 use Rattle.clip.proofs.Walking.{left_from}
-use Rattle.clip.proofs.reader.ClipReader.left.Goals as goal
+use Rattle.clip.proofs.answers.ClipReader.left.Goals as goal
 
 pub returns : goal.returns
 returns g c =

@@ -1,7 +1,7 @@
 use Rattle.std.proofs.Common.{◌<◌, ◌≤◌, subst}
 use Rattle.clip.specs.Made.{limit_of}
 use Rattle.clip.proofs.Finding.{found_shown, found_hidden}
-use Rattle.clip.proofs.reader.ClipReader.find.Goals as goal
+use Rattle.clip.proofs.answers.ClipReader.find.Goals as goal
 
 pub returns-then-id-limit : goal.returns-then-id-limit
 returns-then-id-limit g c =

@@ -1,4 +1,4 @@
-use Rattle.clip.proofs.reader.ClipReader.first.Goals as goal
+use Rattle.clip.proofs.answers.ClipReader.first.Goals as goal
 
 pub returns-in-Ok : goal.returns-in-Ok
 returns-in-Ok g c =
