@@ -248,7 +248,7 @@ fn arrays(rt: HostRuntime) -> Result<(), Fail> {
     for (i, letter) in letters {
         assert_eq!(rt; face(list.get(i)), letter);
     }
-    assert_eq!(rt; face(ArrayRef::new(&Sample, 1).get(0)), b"\xC3\xA9");
+    assert_eq!(rt; face(ArrayRef::new(&Sample, 1).get(0)), b"\xC3\xA9".as_slice());
     match list.iter() {
         Err(_) => Err(Fail::new("list 0 is there")),
         Ok(opened) => {
@@ -259,11 +259,11 @@ fn arrays(rt: HostRuntime) -> Result<(), Fail> {
             let c = face(steps.next());
             let end = face(steps.next());
             steps.close();
-            assert_eq!(rt; a, b"a");
-            assert_eq!(rt; b, b"b");
-            assert_eq!(rt; nested, b"list 1");
-            assert_eq!(rt; c, b"c");
-            assert_eq!(rt; end, b"none");
+            assert_eq!(rt; a, b"a".as_slice());
+            assert_eq!(rt; b, b"b".as_slice());
+            assert_eq!(rt; nested, b"list 1".as_slice());
+            assert_eq!(rt; c, b"c".as_slice());
+            assert_eq!(rt; end, b"none".as_slice());
             Ok(())
         }
     }
