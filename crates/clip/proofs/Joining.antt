@@ -8,7 +8,7 @@ use Rattle.clip.specs.declared.pairs.Pairs.{Pairs}
 use Rattle.clip.specs.Clipped.{clipped}
 use Rattle.clip.specs.Pairing.{limit_in, in_range, listed, sound}
 use Rattle.clip.specs.Made.{pairs_of, limit_of}
-use Rattle.clip.specs.Joined.{joined, lesser, Joined}
+use Rattle.clip.specs.Joined.{joined, Joined}
 use Rattle.clip.proofs.Piles.{one_clip}
 
 -- a pair with the lesser of its clock and the other list's

@@ -1,10 +1,10 @@
 -- An edit that is not refused has found its run.
-use Rattle.std.proofs.Common.{◌≡◌, ℕ, ◌<◌, Bool, true, false, cond, ◌&&◌, ltb, length, is_some, Some, None, Ok, Err, Option, Result, sym, refl, ap, ◌∙◌, arith}
+use Rattle.std.proofs.Common.{◌≡◌, ℕ, ◌<◌, Bool, true, false, cond, ltb, length, is_some, Some, None, Ok, Err, Option, Result, sym, refl, ap, ◌∙◌, arith}
 use Rattle.std.proofs.lemmas.Bool.{and_parts, not-false}
 use Rattle.block.specs.declared.fault.Fault.{Fault}
 use Rattle.block.specs.declared.ids.Id.{Id}
 use Rattle.store.specs.declared.tables.Tables.{Tables}
-use Rattle.store.specs.First.{first_bad, failing}
+use Rattle.store.specs.First.{failing}
 use Rattle.store.specs.FirstFacts.{found_within, found_fails}
 use Rattle.store.specs.Limits.{used}
 use Rattle.store.specs.Records.{Store, run_at}

@@ -1,13 +1,11 @@
 -- A new document passes examination, and has no units.
-use Rattle.std.proofs.Common.{◌≡◌, ℕ, zero, suc, ◌+◌, ◌^◌, ◌<◌, ◌≤◌, Bool, true, false, cond, ◌&&◌, ltb, leb, List, [], ◌∷◌, ◌++◌, length, get_or, take, drop, set, replicate, Some, None, Option, sym, refl, ap, ◌∙◌, subst, append_assoc, arith, length-append, length-drop}
+use Rattle.std.proofs.Common.{◌≡◌, ℕ, zero, suc, ◌+◌, ◌<◌, ◌≤◌, true, cond, ◌&&◌, ltb, leb, List, [], ◌∷◌, ◌++◌, length, get_or, drop, set, replicate, None, sym, refl, ap, ◌∙◌, subst, append_assoc, arith, length-append, length-drop}
 use Rattle.std.proofs.lemmas.List.{set_at, drop_more, replicate_more, take_at, length-replicate}
 use Rattle.std.proofs.lemmas.Bool.{and_parts, and_from, le-leb, leb-true, ltb-true, cond-true}
-use Rattle.block.specs.Units.{Meaning}
-use Rattle.block.specs.declared.fault.Fault.{Fault}
 use Rattle.store.specs.declared.records.ListRecord.{ListRecord}
 use Rattle.store.specs.Limits.{count_fits}
 use Rattle.store.specs.Ranges.{list_fits}
-use Rattle.store.specs.Records.{Store, list_at, no_list}
+use Rattle.store.specs.Records.{Store, no_list}
 use Rattle.links.specs.Lengths.{visible_sum}
 use Rattle.document.specs.Examined.{examined}
 use Rattle.document.specs.Meaning.{spell, clock_in, meaning_of}

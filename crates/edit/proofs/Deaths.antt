@@ -1,19 +1,18 @@
 -- A run that dies leaves tables that pass examination.
-use Rattle.std.proofs.Common.{◌≡◌, ℕ, zero, suc, ◌+◌, ◌-◌, ◌^◌, ◌<◌, ◌≤◌, Bool, true, false, cond, eqb, ◌≢◌, ◌⊎◌, List, length, get_or, set, Some, None, Option, sym, refl, ap, ◌∙◌, subst, inl, inr, ⊎_elim, arith, length-set, get_or-set_other, get_or-set_same}
+use Rattle.std.proofs.Common.{◌≡◌, ℕ, ◌+◌, ◌-◌, ◌<◌, ◌≤◌, true, false, cond, eqb, List, length, get_or, Some, None, Option, sym, refl, ap, ◌∙◌, subst, ⊎_elim, arith, length-set, get_or-set_other, get_or-set_same}
 use Rattle.std.proofs.lemmas.Bool.{cases_eq, eq-eqb, ne_eqb, cond-true, cond-false}
 use Rattle.store.specs.declared.records.ListRecord.{ListRecord}
 use Rattle.store.specs.declared.records.RunRecord.{RunRecord}
 use Rattle.store.specs.Ranges.{id_fits}
-use Rattle.store.specs.Records.{Store, run_at, list_at, no_run, no_list}
+use Rattle.store.specs.Records.{Store, run_at, list_at, no_list}
 use Rattle.links.specs.Lengths.{weight, share, visible_sum}
 use Rattle.links.specs.Walks.{is}
-use Rattle.document.specs.Examined.{examined, accepts}
-use Rattle.document.specs.PassingFacts.{Passing, passing_from, accepts_none}
-use Rattle.document.specs.Sound.{Sound}
+use Rattle.document.specs.Examined.{examined}
+use Rattle.document.specs.PassingFacts.{Passing}
 use Rattle.document.specs.SoundFacts.{sound, fits_parts}
-use Rattle.edit.specs.Edits.{killed, shorter, lowered, replaced, tombstoned}
+use Rattle.edit.specs.Edits.{killed, shorter, lowered, tombstoned}
 use Rattle.edit.proofs.Still.{still, bare, Alike, passing_still}
-use Rattle.edit.proofs.Sums.{run_there, each_run, sum_after}
+use Rattle.edit.proofs.Sums.{each_run, sum_after}
 use Rattle.edit.proofs.Verdicts.{no_fault}
 
 abbrev Within : Option ℕ → ℕ → Type 0

@@ -1,14 +1,13 @@
 -- A run that gets a successor leaves tables that pass examination.
-use Rattle.std.proofs.Common.{◌≡◌, ℕ, ◌+◌, ◌^◌, ◌<◌, true, cond, List, length, get_or, set, is_some, Some, None, Ok, Err, Option, Result, sym, refl, ap, ◌∙◌, subst, arith, length-set}
+use Rattle.std.proofs.Common.{◌≡◌, ℕ, ◌<◌, true, length, set, is_some, Some, None, sym, refl, ap, ◌∙◌, subst, arith, length-set}
 use Rattle.std.proofs.lemmas.Bool.{cond-true}
 use Rattle.block.specs.Units.{Worth}
-use Rattle.block.specs.declared.fault.Fault.{Fault}
 use Rattle.block.specs.declared.ids.Id.{Id}
 use Rattle.store.specs.declared.records.RunRecord.{RunRecord}
 use Rattle.store.specs.Kinds.{kind_of}
 use Rattle.store.specs.Ranges.{id_fits, is_client}
-use Rattle.store.specs.Records.{Store, run_at, list_at}
-use Rattle.links.specs.Lengths.{share, visible_sum}
+use Rattle.store.specs.Records.{Store, run_at}
+use Rattle.links.specs.Lengths.{visible_sum}
 use Rattle.document.specs.Examined.{examined}
 use Rattle.document.specs.LawFacts.{has_is}
 use Rattle.document.specs.Meaning.{unit_of, meaning_of, offset}

@@ -13,9 +13,9 @@ use Rattle.store.specs.Records.{Store, run_at, list_at, client_at, no_run, no_li
 use Rattle.links.specs.Lengths.{later, last_end, visible_sum}
 use Rattle.links.specs.Links.{is_list, is_id, holds_one, is_recorded, run_agrees_at, is_holder, holder_agrees, list_agrees_at, client_agrees_at}
 use Rattle.links.specs.Walks.{is, same, left_agrees, right_agrees, meets, is_reached, start_agrees}
-use Rattle.content.specs.Content.{run_filled, run_filled_at, has_entry, entry_serves_at}
+use Rattle.content.specs.Content.{run_filled, has_entry}
 use Rattle.document.specs.PassingFacts.{Passing}
-use Rattle.document.specs.SoundFacts.{Agrees, agrees_parts, fits_parts, list_parts}
+use Rattle.document.specs.SoundFacts.{agrees_parts, fits_parts, list_parts}
 
 -- a run without life and successor
 abbrev pub still : RunRecord → RunRecord

@@ -1,12 +1,11 @@
 -- One run's record replaced: the other runs, and the sums of visible units.
-use Rattle.std.proofs.Common.{◌≡◌, ℕ, zero, suc, ◌+◌, ◌<◌, ◌≤◌, ◌≢◌, ◌⊎◌, List, length, get_or, set, sym, refl, ap, ◌∙◌, subst, inl, inr, ⊎_elim, arith, length-set, get_or-set_other, get_or-set_same}
+use Rattle.std.proofs.Common.{◌≡◌, ℕ, zero, suc, ◌+◌, ◌<◌, ◌≤◌, ◌≢◌, List, length, sym, refl, ap, ◌∙◌, subst, ⊎_elim, arith, get_or-set_other, get_or-set_same}
 use Rattle.std.proofs.lemmas.Bool.{cases_eq}
 use Rattle.store.specs.declared.records.ListRecord.{ListRecord}
 use Rattle.store.specs.declared.records.RunRecord.{RunRecord}
 use Rattle.store.specs.Records.{Store, run_at, no_run}
 use Rattle.links.specs.Lengths.{share, visible_sum}
 use Rattle.edit.specs.Edits.{replaced}
-use Rattle.edit.proofs.Still.{still}
 
 module _ (s : Store) (i : ℕ) (r : RunRecord) (hs : List ListRecord) (lt : i < length s.runs) where
   pub run_there : run_at (replaced s i r hs) i ≡ r

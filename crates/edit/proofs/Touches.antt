@@ -1,28 +1,27 @@
 -- A change of one run's life or successor, in units.
-use Rattle.std.proofs.Common.{◌≡◌, ℕ, zero, suc, ◌+◌, ◌-◌, ◌<◌, ◌≤◌, Bool, true, false, cond, ◌&&◌, eqb, ltb, leb, ◌≢◌, ◌⊎◌, List, [], ◌∷◌, ◌++◌, map, length, get_or, take, drop, set, Some, None, Option, unwrap_or, sym, refl, ap, ◌∙◌, subst, inl, inr, ⊎_elim, append_assoc, arith, length-append}
+use Rattle.std.proofs.Common.{◌≡◌, ℕ, zero, suc, ◌+◌, ◌-◌, ◌<◌, ◌≤◌, cond, eqb, leb, ◌≢◌, List, [], ◌∷◌, ◌++◌, map, length, get_or, take, drop, set, Some, None, Option, unwrap_or, sym, refl, ap, ◌∙◌, subst, ⊎_elim, append_assoc, arith, length-append}
 use Rattle.std.specs.List.{range_with_len}
 use Rattle.std.proofs.lemmas.List.{map-append, get_or_past, get_or-take, get_or-drop, take_at, drop_at, length-take-le, length-drop}
 use Rattle.std.proofs.lemmas.Bool.{cases_eq, cases_lt, cases_Bool, eq-eqb, le-leb, lt-ltb, and_from, cond-true, cond-false}
-use Rattle.block.specs.Units.{UnitOf, Meaning, Lawful, no_unit, unit_at, nested}
+use Rattle.block.specs.Units.{UnitOf, no_unit, nested}
 use Rattle.block.specs.declared.ids.Id.{Id}
 use Rattle.block.specs.declared.kind.Kind.{Kind}
 use Rattle.block.specs.declared.kind.Kind.TheVariants as kinds
 use Rattle.store.specs.declared.records.ListRecord.{ListRecord}
 use Rattle.store.specs.declared.records.RunRecord.{RunRecord}
-use Rattle.store.specs.Clocks.{end_of}
 use Rattle.store.specs.First.{first_bad, failing}
 use Rattle.store.specs.Records.{Store, run_at, list_at, no_run}
 use Rattle.links.specs.Links.{is_id}
 use Rattle.document.specs.Finds.{has}
-use Rattle.document.specs.LawFacts.{Has, has_is, lawful_is}
+use Rattle.document.specs.LawFacts.{has_is, lawful_is}
 use Rattle.document.specs.LengthFacts.{Stands, near, long_U}
 use Rattle.document.specs.Meaning.{entry_worth, character_worth, list_held, worth_of, unit_of, units_of, spell, units_in, meaning_of, offset}
-use Rattle.document.specs.ReadingFacts.{Around, around, unit_in}
-use Rattle.document.specs.Sound.{Linked, Sound}
+use Rattle.document.specs.ReadingFacts.{unit_in}
+use Rattle.document.specs.Sound.{Sound}
 use Rattle.document.specs.WalkFacts.{length_units}
 use Rattle.history.specs.Events.{Turns}
 use Rattle.edit.specs.Edits.{replaced}
-use Rattle.edit.proofs.Still.{still, Shape, Alike, of}
+use Rattle.edit.proofs.Still.{still, Alike, of}
 use Rattle.edit.proofs.Sums.{run_there, run_other}
 
 -- two ways to make a list of units from indices

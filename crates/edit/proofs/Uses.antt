@@ -1,5 +1,5 @@
 -- What an edit of tables does to their records in use.
-use Rattle.std.proofs.Common.{◌≡◌, ℕ, zero, suc, ◌<◌, ◌≤◌, min, Bool, true, false, cond, ◌&&◌, leb, List, [], ◌∷◌, length, get_or, take, set, Some, None, Option, sym, refl, ap, ◌∙◌, subst, arith, length-set}
+use Rattle.std.proofs.Common.{◌≡◌, ℕ, zero, suc, ◌<◌, ◌≤◌, Bool, true, false, cond, ◌&&◌, leb, List, [], ◌∷◌, length, get_or, take, set, Some, None, Option, sym, refl, ap, ◌∙◌, arith, length-set}
 use Rattle.std.proofs.lemmas.List.{length-take, get_or-take}
 use Rattle.std.proofs.lemmas.Bool.{and_parts, leb-true, cond-true}
 use Rattle.block.specs.declared.fault.Code.TheVariants.{OutOfRange}
@@ -11,7 +11,7 @@ use Rattle.store.specs.Limits.{count_fits}
 use Rattle.store.specs.Records.{Store, run_at, list_at, no_run, no_list}
 use Rattle.store.specs.Refusals.{fault_at}
 use Rattle.links.specs.Lengths.{weight}
-use Rattle.document.specs.Examined.{examined, accepts}
+use Rattle.document.specs.Examined.{examined}
 use Rattle.document.specs.PassingFacts.{Passing, passing_from, accepts_none}
 use Rattle.edit.specs.Edits.{Contents, with_all, replaced, killed, shorter, lowered, tombstoned}
 use Rattle.edit.proofs.Deaths.{long_enough, dead_examined}

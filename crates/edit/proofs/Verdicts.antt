@@ -1,5 +1,5 @@
 -- Tables whose records pass their tests have no fault.
-use Rattle.std.proofs.Common.{◌≡◌, ℕ, ◌<◌, true, cond, length, Some, None, Option, refl}
+use Rattle.std.proofs.Common.{◌≡◌, ℕ, None, Option, refl}
 use Rattle.std.proofs.lemmas.Bool.{cond-true}
 use Rattle.block.specs.declared.fault.Code.{Code}
 use Rattle.block.specs.declared.fault.Fault.{Fault}

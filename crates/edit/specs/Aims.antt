@@ -10,7 +10,6 @@ use Rattle.block.specs.declared.ids.Id.{Id}
 use Rattle.store.specs.declared.records.RunRecord.{RunRecord}
 use Rattle.store.specs.declared.records.View.{View}
 use Rattle.store.specs.declared.tables.Tables.{Tables}
-use Rattle.store.specs.Clocks.{end_of}
 use Rattle.store.specs.First.{first_bad, failing}
 use Rattle.store.specs.Limits.{is_counted, used}
 use Rattle.store.specs.Records.{Store, held, run_at}

@@ -1,12 +1,12 @@
 -- A small document, and what the definitions say of it.
-use Rattle.std.specs.Prelude.{◌≡◌, ℕ, zero, suc, Bool, true, false, cond, List, [], ◌∷◌, ◌++◌, map, length, Some, None, Ok, Err, ◌==◌}
+use Rattle.std.specs.Prelude.{◌≡◌, ℕ, zero, suc, true, cond, List, [], ◌∷◌, ◌++◌, length, None, Ok, Err, ◌==◌}
 use Rattle.block.specs.declared.ids.Id.{Id}
 use Rattle.block.specs.declared.call.Call.TheVariants.{Read}
-use Rattle.block.specs.declared.call.Outcome.TheVariants.{Done, Refused}
+use Rattle.block.specs.declared.call.Outcome.TheVariants.{Refused}
 use Rattle.block.specs.declared.fault.Code.TheVariants.{BeyondLength, NotKnown}
 use Rattle.block.specs.declared.fault.Spot.TheVariants as spots
 use Rattle.block.specs.declared.kind.Kind.TheVariants.{Text}
-use Rattle.block.specs.Units.{Meaning, UnitOf, Worth, bytes, seen}
+use Rattle.block.specs.Units.{Meaning, UnitOf, bytes, seen}
 use Rattle.block.specs.Plain.{plain_run, too_far}
 use Rattle.clip.specs.declared.pair.Pair.{Pair}
 use Rattle.clip.specs.Pairing.{limit_in}

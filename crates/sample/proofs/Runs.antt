@@ -1,5 +1,5 @@
 -- The sample's answers, run by run.
-use Rattle.std.proofs.Common.{◌≡◌, ℕ, zero, suc, ◌+◌, ◌-◌, ◌<◌, ◌≤◌, List, [], ◌∷◌, ◌++◌, map, length, get_or, take, drop, set, Some, None, Option, sym, refl, ap, ◌∙◌, subst, arith, length-drop}
+use Rattle.std.proofs.Common.{◌≡◌, ℕ, zero, suc, ◌+◌, ◌-◌, ◌<◌, List, [], ◌∷◌, ◌++◌, map, length, get_or, take, drop, set, Some, Option, sym, refl, ap, ◌∙◌, subst, arith, length-drop}
 use Rattle.std.proofs.lemmas.List.{take_more_set, map_push, map_more, get_or-drop, drop-set-lt, drop-drop}
 use Rattle.block.specs.declared.slot.Slot.{Slot}
 use Rattle.block.specs.Units.{Stretch, UnitOf, no_unit, unit_at}

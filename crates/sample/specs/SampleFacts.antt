@@ -1,5 +1,5 @@
 -- The sample document is lawful, and its places are its runs.
-use Rattle.std.specs.Prelude.{◌≡◌, ℕ, zero, suc, ◌+◌, ◌-◌, ◌^◌, ◌<◌, ◌≤◌, true, false, cond, List, [], ◌∷◌, length, Some, None, Option, ◌==◌, refl}
+use Rattle.std.specs.Prelude.{◌≡◌, ℕ, zero, suc, ◌+◌, ◌^◌, ◌<◌, ◌≤◌, cond, [], length, Some, ◌==◌, refl}
 use Rattle.std.proofs.Common.{sym, ap, subst, ◌∙◌, arith}
 use Rattle.std.proofs.lemmas.Bool.{cond_both}
 use Rattle.block.specs.declared.ids.Id.{Id}
@@ -7,7 +7,7 @@ use Rattle.block.specs.declared.kind.Kind.TheVariants as kinds
 use Rattle.block.specs.Units.{Lawful, Stretch, RunOf, UnitOf, unit_at, nested, seen}
 use Rattle.sample.specs.declared.sample.Run.{Run}
 use Rattle.sample.specs.declared.sample.Run.TheVariants.{Ab, Bold, Xy, Nest, C, Inner}
-use Rattle.sample.specs.Sample.{sample, units_of, holder_of, known_of, ident, span}
+use Rattle.sample.specs.Sample.{sample, units_of, holder_of, known_of, span}
 
 -- where an id stands: its list and its index there
 by_5 : ℕ → ℕ × ℕ

@@ -248,7 +248,10 @@ fn arrays(rt: HostRuntime) -> Result<(), Fail> {
     for (i, letter) in letters {
         assert_eq!(rt; face(list.get(i)), letter);
     }
-    assert_eq!(rt; face(ArrayRef::new(&Sample, 1).get(0)), b"\xC3\xA9".as_slice());
+    assert_eq!(rt;
+        face(ArrayRef::new(&Sample, 1).get(0)),
+        b"\xC3\xA9".as_slice()
+    );
     match list.iter() {
         Err(_) => Err(Fail::new("list 0 is there")),
         Ok(opened) => {
