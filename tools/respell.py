@@ -5,7 +5,7 @@ usage: python3 tools/respell.py [--check]      at the top of a tree that port.py
 
 A name with a dash that a file of specs/ or proofs/ declares (a definition, a lemma, a field, a constructor) is
 written with `_` in place of the dash, or, where it begins with a capital, in camel case: `find-run` is `find_run`,
-`Run-of` is `RunOf`. Names that Rattle makes (goals, invariants, measures, steps) and names of the library stay.
+`Run-of` is `RunOf` (and so is a `Run_of` that port.py left). Names that Rattle makes (goals, invariants, measures, steps) and names of the library stay.
 With --check nothing is written: the names that would fall together are printed.
 """
 import glob
@@ -14,6 +14,7 @@ import sys
 
 WORD = r"[^\s(){}\[\];.,@`\"«»]+"
 DECLARED = re.compile(r"^\s*(?:(?:abbrev|unfoldable)\s+)?(?:pub\s+)?(?:(?:data|record)\s+)?(" + WORD + r")\s+(?:\([^:]*:[^)]*\)\s*|\{[^:]*:[^}]*\}\s*)*:\s")
+TYPE = re.compile(r"^\s*(?:pub\s+)?(?:data|record)\s+(" + WORD + r")\s")
 LIBRARY = re.compile(r"use (?:Rattle\.std|borrow|denote|mathlib|lib|logic|Prim|native)\.[^{;]*\{([^}]*)\}")
 # goals, invariants, measures and ghost choices are named by Rattle
 MADE = re.compile(r"^(returns|loop|invariant|decreases|overflow|bounds|slice-bounds|offset-bounds|nonzero|ghost)-|-(requires|init|preserved|smaller)$|-requires-")
@@ -26,8 +27,8 @@ def files():
 
 def declared(text):
     for line in text.split("\n"):
-        m = DECLARED.match(line)
-        if m and "-" in m.group(1).strip("-"):
+        m = DECLARED.match(line) or TYPE.match(line)
+        if m and ("-" in m.group(1).strip("-") or re.match(r"[A-Z]\w*_", m.group(1))):
             rest = line[m.end():]
             if re.match(r"(goal|need|given)\.", rest.strip()):
                 continue
@@ -36,7 +37,7 @@ def declared(text):
 
 def turned(name):
     if name[0].isupper():
-        head, *rest = name.split("-")
+        head, *rest = re.split("[-_]", name)
         return head + "".join(w[0].upper() + w[1:] for w in rest)
     return name.replace("-", "_")
 
@@ -52,9 +53,12 @@ def main():
     own = {n for t in texts.values() for n in declared(t)}
     own = {n for n in own if n not in library and not MADE.search(n) and all(c.isalnum() or c in "-_'" for c in n)}
     table = {n: turned(n) for n in own}
-    sources = sorted(glob.glob("crates/*/src/**/*.rt", recursive=True))
+    if not table:
+        print("0 names")
+        return
     every = dict(texts)
-    every.update({f: open(f, encoding="utf-8").read() for f in sources})
+    for f in sorted(glob.glob("crates/*/src/**/*.rt", recursive=True)):
+        every[f] = open(f, encoding="utf-8").read()
     token = re.compile(r"(?<![\w\-'◌])(" + "|".join(sorted(map(re.escape, table), key=len, reverse=True)) + r")(?![\w\-'◌])")
     fallen = 0
     for f, t in every.items():
@@ -67,11 +71,8 @@ def main():
             for m in re.finditer(r"\bc(?:\.[\w\-']+)*\.([\w\-']+)", t):
                 if m.group(1) in table and not m.group(0).endswith("ensures." + m.group(1)):
                     print(f"{f}: step {m.group(0)}")
-        if f in sources:
-            # in a source only clauses speak of these names, and a dash in code stands between spaces
-            new = token.sub(lambda m: table[m.group(1)], t)
-        else:
-            new = token.sub(lambda m: table[m.group(1)], t)
+        # in a source only clauses speak of these names, since a dash in code stands between spaces
+        new = token.sub(lambda m: table[m.group(1)], t)
         if new != t and not check:
             open(f, "w", encoding="utf-8").write(new)
     print(f"{len(table)} names, {fallen} places to look at")

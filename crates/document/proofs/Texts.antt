@@ -93,7 +93,7 @@ spelled_text bs n h =
     (subst (λ (cs : List (List ℕ)). Spelled utf8_char cs bs) (sym e) sp, ap length e ∙ b.1)
 
 -- character k of a text, with what comes after it
-pub record Lies-at (t : List Row) (cs : List (List ℕ)) (bs : List ℕ) (k : ℕ) : Type 0 where
+pub record LiesAt (t : List Row) (cs : List (List ℕ)) (bs : List ℕ) (k : ℕ) : Type 0 where
   pub rest : List ℕ
   pub parts : drop (place_of cs k) bs ≡ get_or cs k [] ++ rest
   pub inside : place_of cs k + length (get_or cs k []) ≤ length bs
@@ -104,7 +104,7 @@ drop_past : (c bs : List ℕ) (p : ℕ) → drop (length c + p) (c ++ bs) ≡ dr
 drop_past c bs p = sym (drop-drop p (length c) (c ++ bs)) ∙ ap (drop p) (drop_at c bs (length c) refl)
 
 module _ (t : List Row) (ok : Sound t) where
-  later_at : (c : List ℕ) (cs : List (List ℕ)) (k : ℕ) → Lies-at t cs (together cs) k → Lies-at t (c ∷ cs) (together (c ∷ cs)) (suc k)
+  later_at : (c : List ℕ) (cs : List (List ℕ)) (k : ℕ) → LiesAt t cs (together cs) k → LiesAt t (c ∷ cs) (together (c ∷ cs)) (suc k)
   later_at c cs k h =
       let e : place_of (c ∷ cs) (suc k) ≡ length c + place_of cs k = length-append c (together (take k cs)) in
       let f : place_of (c ∷ cs) (suc (suc k)) ≡ length c + place_of cs (suc k) = length-append c (together (take (suc k) cs)) in
@@ -117,29 +117,29 @@ module _ (t : List Row) (ok : Sound t) where
         next = omega (arith, e, f, h.next);
       }
 
-  first_at : (c : List ℕ) (cs : List (List ℕ)) → is_character t c ≡ true → Lies-at t (c ∷ cs) (together (c ∷ cs)) 0
+  first_at : (c : List ℕ) (cs : List (List ℕ)) → is_character t c ≡ true → LiesAt t (c ∷ cs) (together (c ∷ cs)) 0
   first_at c cs h =
       let l : length (together (c ∷ cs)) ≡ length c + length (together cs) = length-append c (together cs) in
       let f : place_of (c ∷ cs) 1 ≡ length c + 0 = length-append c [] in
       record { rest = together cs; parts = refl; inside = omega (arith, l); character = h; next = omega (arith, f) }
 
-  lies_in : (cs : List (List ℕ)) (k : ℕ) → AllCharacters t cs → k < length cs → Lies-at t cs (together cs) k
+  lies_in : (cs : List (List ℕ)) (k : ℕ) → AllCharacters t cs → k < length cs → LiesAt t cs (together cs) k
   lies_in [] k h lt = absurd (omega arith)
   lies_in (c ∷ cs) zero h lt = first_at c cs h.0
   lies_in (c ∷ cs) (suc k) h lt = later_at c cs k (lies_in cs k h.1 (omega arith))
 
-  pub lies_at : (cs : List (List ℕ)) (bs : List ℕ) (k : ℕ) → Spelled t cs bs → k < length cs → Lies-at t cs bs k
-  lies_at cs bs k h lt = subst (λ (xs : List ℕ). Lies-at t cs xs k) h.whole (lies_in cs k h.each lt)
+  pub lies_at : (cs : List (List ℕ)) (bs : List ℕ) (k : ℕ) → Spelled t cs bs → k < length cs → LiesAt t cs bs k
+  lies_at cs bs k h lt = subst (λ (xs : List ℕ). LiesAt t cs xs k) h.whole (lies_in cs k h.each lt)
 
-  pub front_at : (cs : List (List ℕ)) (bs : List ℕ) (k : ℕ) → Lies-at t cs bs k → front t (drop (place_of cs k) bs) ≡ Ok (length (get_or cs k []))
+  pub front_at : (cs : List (List ℕ)) (bs : List ℕ) (k : ℕ) → LiesAt t cs bs k → front t (drop (place_of cs k) bs) ≡ Ok (length (get_or cs k []))
   front_at cs bs k h = ap (front t) h.parts ∙ front_reads t ok (get_or cs k []) h.rest h.character
 
   -- the length of character k, measured where it begins
-  pub measured_at : (cs : List (List ℕ)) (bs : List ℕ) (k : ℕ) → Lies-at t cs bs k → character_at t bs (place_of cs k) ≡ Ok (length (get_or cs k []))
+  pub measured_at : (cs : List (List ℕ)) (bs : List ℕ) (k : ℕ) → LiesAt t cs bs k → character_at t bs (place_of cs k) ≡ Ok (length (get_or cs k []))
   unfolding character_at
   measured_at cs bs k h = ap (placed _) (front_at cs bs k h)
 
-  pub bytes_at : (cs : List (List ℕ)) (bs : List ℕ) (k : ℕ) → Lies-at t cs bs k → take (length (get_or cs k [])) (drop (place_of cs k) bs) ≡ get_or cs k []
+  pub bytes_at : (cs : List (List ℕ)) (bs : List ℕ) (k : ℕ) → LiesAt t cs bs k → take (length (get_or cs k [])) (drop (place_of cs k) bs) ≡ get_or cs k []
   bytes_at cs bs k h = ap (take (length (get_or cs k []))) h.parts ∙ take_at (get_or cs k []) h.rest (length (get_or cs k [])) refl
 
   not_empty : (c : List ℕ) → is_character t c ≡ true → 0 < length c

@@ -19,16 +19,16 @@ unfolding meets
 meets_none d i n h = no_truth h
 
 -- the run itself, or the walk goes on
-pub record Goes_on (d : Store) (i j n : ℕ) : Type 0 where
+pub record GoesOn (d : Store) (i j n : ℕ) : Type 0 where
   pub next : ℕ
   pub right : (run_at d j).right ≡ Some next
   pub met : meets d i (Some next) n ≡ true
 
-goes_on : (d : Store) (i j n : ℕ) (o : Option ℕ) → (run_at d j).right ≡ o → meets d i o n ≡ true → Goes_on d i j n
+goes_on : (d : Store) (i j n : ℕ) (o : Option ℕ) → (run_at d j).right ≡ o → meets d i o n ≡ true → GoesOn d i j n
 goes_on d i j n None e h = absurd (meets_none d i n h)
 goes_on d i j n (Some q) e h = record { next = q; right = e; met = h }
 
-one_step : (d : Store) (i j n : ℕ) → meets d i (Some j) (suc n) ≡ true → (j ≡ i) ⊎ Goes_on d i j n
+one_step : (d : Store) (i j n : ℕ) → meets d i (Some j) (suc n) ≡ true → (j ≡ i) ⊎ GoesOn d i j n
 unfolding meets
 one_step d i j n h =
     ⊎_elim

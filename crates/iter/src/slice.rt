@@ -1,4 +1,4 @@
-ghost use Rattle.std.specs.Prelude.{◌≡◌, ◌+◌, ◌-◌, ◌^◌, ◌<◌, ◌≤◌, false, not, ◌&&◌, if◌then◌else◌, MatchOption, ◌==◌, nat_lt, ⊤};
+ghost use Rattle.std.specs.Prelude.{◌≡◌, ◌+◌, ◌-◌, ◌^◌, ◌<◌, ◌≤◌, false, not, ◌&&◌, if◌then◌else◌, MatchOption, ◌==◌, nat_lt};
 ghost use Rattle.block.specs.Kinds.{is_counted};
 ghost use Rattle.iter.specs.Cuts.{is_part, id_in, has_id};
 
@@ -20,13 +20,19 @@ pub struct ItemSlice<P> {
 
 impl<P: Copy> Copy for ItemSlice<P> {}
 
-impl<P: Copy> Clone for ItemSlice<P> {
-    ghost is_clone = { λ x y. y ≡ x };
+impl<P: Clone> Clone for ItemSlice<P> {
+    ghost is_clone = { λ x y. P.is_clone x.place y.place × (y.run ≡ x.run) × (y.start ≡ x.start) × (y.end ≡ x.end) };
 
-    ghost is_infallible = { λ _. ⊤ };
+    ghost is_infallible = { λ x. P.is_infallible x.place };
 
     fn clone(&self) -> Result<ItemSlice<P>, AllocError> {
-        Ok(*self)
+        let place = self.place.clone()?;
+        Ok(ItemSlice {
+            place,
+            run: self.run,
+            start: self.start,
+            end: self.end,
+        })
     }
 }
 

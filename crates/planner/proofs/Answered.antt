@@ -13,7 +13,7 @@ use Rattle.block_iter.specs.Walks.{Shows}
 use Rattle.block_iter.specs.Cursors.{Same, Moved, ShowsNext, visible_of}
 use Rattle.block_iter.proofs.Moves.{denied}
 use Rattle.block_iter.proofs.Performs.{same_visible}
-use Rattle.planner.specs.Steps.{Read_from}
+use Rattle.planner.specs.Steps.{ReadFrom}
 
 pub seen_as : {R P : Type 0} (meaning : R → Meaning) (r : R) (l : ℕ) (b : BlockIter R P) → b.reader ≡ r → b.list ≡ l → visible_of meaning b ≡ seen ((meaning r).units l)
 seen_as meaning r l b reader list = ap (λ (x : _). seen ((meaning x).units b.list)) reader ∙ ap (λ (k : ℕ). seen ((meaning r).units k)) list
@@ -52,7 +52,7 @@ module _ {R P : Type 0} (meaning : R → Meaning) (stretch : R → P → Option 
         (subst (λ (k : ℕ). Shows (shown c.reader) part (next_units (visible_of meaning c) c.index k)) long shows)))
 
 -- the buffer, of which the first part was filled
-pub read_from : (shown : Slot → Option (Kind × Worth)) (vs : List UnitOf) (i : ℕ) (slots part : List Slot) (read k : ℕ) → read ≡ min (length slots) (length vs - i) → length part ≡ read → k ≡ read → Shows shown part (next_units vs i read) → Read_from shown vs i slots (put_mid 0 k slots part) read
+pub read_from : (shown : Slot → Option (Kind × Worth)) (vs : List UnitOf) (i : ℕ) (slots part : List Slot) (read k : ℕ) → read ≡ min (length slots) (length vs - i) → length part ≡ read → k ≡ read → Shows shown part (next_units vs i read) → ReadFrom shown vs i slots (put_mid 0 k slots part) read
 read_from shown vs i slots part read k many long k-is shows = record {
   many = many;
   values = subst (λ (xs : List Slot). Shows shown xs (next_units vs i read)) (sym (take-put_mid 0 k slots part read (omega arith) (omega arith))) shows;
