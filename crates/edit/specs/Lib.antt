@@ -1,3 +1,4 @@
+pub mod Contents
 pub mod Aims
 pub mod Edits
 pub mod Happenings

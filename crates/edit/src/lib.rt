@@ -1,6 +1,6 @@
 #![tactic(auto)]
 
-mod aim;
+pub mod aim;
 pub mod create;
 pub mod redo;
 pub mod tombstone;

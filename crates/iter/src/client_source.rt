@@ -1,5 +1,5 @@
 ghost use Rattle.std.specs.Prelude.{◌≡◌, ◌-◌};
-ghost use Rattle.iter.specs.Runs.{Apart, ByClock};
+ghost use Rattle.iter.specs.Runs.{ByClock};
 
 use crate::run::Run;
 use crate::source::Source;
@@ -40,9 +40,7 @@ impl<R: Reader> ClientSource<R> {
 impl<R: Reader> Source for ClientSource<R> {
     type Place = R::Place;
 
-    ghost ahead = { λ s ws. Apart (R.Reader.stretch s.reader) × ByClock (R.Reader.meaning s.reader) (R.Reader.stretch s.reader) s.client s.clock ws };
-
-    ghost certain = { λ s. Apart (R.Reader.stretch s.reader) };
+    ghost ahead = { λ s ws. ByClock (R.Reader.meaning s.reader) (R.Reader.stretch s.reader) s.client s.clock ws };
 
     ghost left = { λ s. (R.Reader.meaning s.reader).known s.client - s.clock };
 
