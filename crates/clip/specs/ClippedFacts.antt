@@ -1,12 +1,11 @@
 -- What a clip shows is a document: its laws, its runs, its places.
-use Rattle.std.specs.Prelude.{◌≡◌, ℕ, ◌+◌, ◌-◌, ◌<◌, ◌≤◌, min, true, length, Some, filter, Option}
+use Rattle.std.specs.Prelude.{◌≡◌, ℕ, ◌+◌, ◌<◌, ◌≤◌, min, true, length, Some, filter, Option}
 use Rattle.std.proofs.Common.{sym, ap, subst, ◌∙◌, arith}
 use Rattle.std.proofs.lemmas.Bool.{ltb-true, lt-ltb}
 use Rattle.block.specs.Units.{Meaning, Stretch, UnitOf, Lawful, RunOf, unit_at, no_unit, visible}
-use Rattle.reader.specs.Answers.{Apart}
-use Rattle.clip.specs.Clipped.{shown_by, clipped, place_of, shown_part, cut}
+use Rattle.clip.specs.Clipped.{shown_by, clipped, place_of, cut}
 use Rattle.block.specs.Kept.{kept_at, kept_from, spot_same, kept_twice, kept_fewer}
-use Rattle.clip.specs.RunFacts.{RunsOf, part_shown, moved_by, moved_run, cut_from}
+use Rattle.clip.specs.RunFacts.{RunsOf, moved_run, cut_from}
 
 module _ (limit : ℕ → ℕ) (m : Meaning) where
   pub unit_from : (l i : ℕ) → i < length ((clipped limit m).units l) → (j : ℕ) × (j < length (m.units l)) × ((unit_at m l j).id.clock < limit (unit_at m l j).id.client) × (place_of limit m l j ≡ i) × (unit_at (clipped limit m) l i ≡ unit_at m l j)
@@ -42,29 +41,18 @@ module _ {P : Type 0} (limit : ℕ → ℕ) (m : Meaning) (st : P → Option Str
       let c = cut_from limit m (st p) u e in
       subst (RunOf (clipped limit m)) c.3 (moved_run limit m c.0 (runs p c.0 c.1) c.2)
 
-  -- units of two runs that stand at one place under the clip stand at one place below it
-  met_below : (v w : Stretch) → RunOf m v → RunOf m w → v.list ≡ w.list → (a b : ℕ) → a < shown_part limit m v → b < shown_part limit m w → place_of limit m v.list v.from + a ≡ place_of limit m w.list w.from + b → v.from + a ≡ w.from + b
-  met_below v w rv rt lists a b la lb e =
-      let l : ℕ = w.list in
-      let va = subst (λ x. place_of limit m x (v.from + a) ≡ place_of limit m x v.from + a) lists (moved_by limit m v rv a (omega arith)) in
-      let wb = moved_by limit m w rt b (omega arith) in
-      let same : place_of limit m l (v.from + a) ≡ place_of limit m l (w.from + b) = va ∙ ap (λ x. place_of limit m x v.from + a) (sym lists) ∙ e ∙ sym wb in
-      let inside : v.from + v.count ≤ length (m.units l) = subst (λ x. v.from + v.count ≤ length (m.units x)) lists rv.within in
-      let shown : shown_by limit (unit_at m l (v.from + a)) ≡ true = subst (λ x. shown_by limit (unit_at m x (v.from + a)) ≡ true) lists (part_shown limit m v rv a la) in
-      spot_same (shown_by limit) (m.units l) (v.from + a) (w.from + b) no_unit (omega arith) (omega (arith, rt.within)) shown (part_shown limit m w rt b lb) same
-
-  pub clipped_apart : Apart st → Apart (λ p. cut limit m (st p))
-  clipped_apart law p q t u i e f g tl th ul uh =
+  pub clipped_faithful : ((p q : P) (t u : Stretch) → st p ≡ Some t → st q ≡ Some u → t.list ≡ u.list → t.from ≡ u.from → p ≡ q) → (p q : P) (t u : Stretch) → cut limit m (st p) ≡ Some t → cut limit m (st q) ≡ Some u → t.list ≡ u.list → t.from ≡ u.from → p ≡ q
+  clipped_faithful law p q t u e f g h =
       let a = cut_from limit m (st p) t e in
       let b = cut_from limit m (st q) u f in
       let v = a.0 in
       let w = b.0 in
       let lists : v.list ≡ w.list = ap (λ x. x.list) a.3 ∙ g ∙ sym (ap (λ x. x.list) b.3) in
-      let vf = ap (λ x. x.from) a.3 in
-      let vc = ap (λ x. x.count) a.3 in
-      let wf = ap (λ x. x.from) b.3 in
-      let wc = ap (λ x. x.count) b.3 in
-      let ka : i - t.from < shown_part limit m v = omega (arith, vc) in
-      let kb : i - u.from < shown_part limit m w = omega (arith, wc) in
-      let met = met_below v w (runs p v a.1) (runs q w b.1) lists (i - t.from) (i - u.from) ka kb (omega (arith, vf, wf)) in
-      law p q v w (v.from + (i - t.from)) a.1 b.1 lists (omega arith) (omega arith) (omega (arith, met)) (omega (arith, met))
+      let froms : place_of limit m v.list v.from ≡ place_of limit m w.list w.from = ap (λ x. x.from) a.3 ∙ h ∙ sym (ap (λ x. x.from) b.3) in
+      let froms2 : place_of limit m v.list v.from ≡ place_of limit m v.list w.from = froms ∙ ap (λ x. place_of limit m x w.from) (sym lists) in
+      let rv = runs p v a.1 in
+      let rw2 = runs q w b.1 in
+      let within2 = subst (λ x. w.from + w.count ≤ length (m.units x)) (sym lists) rw2.within in
+      let shown2 = subst (λ x. shown_by limit (unit_at m x w.from) ≡ true) (sym lists) (lt-ltb _ _ (omega (arith, b.2))) in
+      law p q v w a.1 b.1 lists
+      (spot_same (shown_by limit) (m.units v.list) v.from w.from no_unit (omega (arith, rv.within, a.2)) (omega (arith, within2, b.2)) (lt-ltb _ _ (omega (arith, a.2))) shown2 froms2)

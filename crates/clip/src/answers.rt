@@ -1,6 +1,6 @@
 ghost use Rattle.std.specs.Prelude.{◌+◌};
 ghost use Rattle.clip.specs.Clipped.{clipped, cut};
-ghost use Rattle.clip.specs.ClippedFacts.{clipped_lawful, clipped_settled, clipped_apart};
+ghost use Rattle.clip.specs.ClippedFacts.{clipped_lawful, clipped_settled, clipped_faithful};
 ghost use Rattle.clip.specs.Made.{limit_of};
 
 use crate::clip::{Clip, raised};
@@ -24,7 +24,7 @@ impl<R: Reader> Reader for Clip<R> {
 
     ghost settled = { λ s. clipped_settled (limit_of s.pairs) (R.Reader.meaning s.below) (R.Reader.stretch s.below) (R.Reader.settled s.below) };
 
-    ghost apart = { λ s. clipped_apart (limit_of s.pairs) (R.Reader.meaning s.below) (R.Reader.stretch s.below) (R.Reader.settled s.below) (R.Reader.apart s.below) };
+    ghost faithful = { λ s. clipped_faithful (limit_of s.pairs) (R.Reader.meaning s.below) (R.Reader.stretch s.below) (R.Reader.settled s.below) (R.Reader.faithful s.below) };
 
     fn first(&self, list: u32) -> Result<Option<R::Place>, Fault> {
         match self.below.first(list) {

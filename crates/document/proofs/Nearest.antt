@@ -5,11 +5,11 @@ use Rattle.block.specs.Units.{UnitOf, unit_at}
 use Rattle.reader.specs.Answers.{Later, Nearest}
 use Rattle.store.specs.Clocks.{end_of}
 use Rattle.store.specs.Records.{Store, run_at, list_at}
-use Rattle.document.specs.LawFacts.{spread, unit_is, listed_is, lawful_is, has_is}
-use Rattle.document.specs.Meaning.{clock_in, meaning_of, offset, stretch_of}
+use Rattle.document.specs.LawFacts.{spread, unit_is, listed_is}
+use Rattle.document.specs.Meaning.{meaning_of, offset, stretch_of}
 use Rattle.document.specs.ReadingFacts.{span, stretched_some, first_unit}
 use Rattle.document.specs.Sound.{Sound}
-use Rattle.document.specs.Finds.{has, is_due, sooner, next_due, due_run}
+use Rattle.document.specs.Finds.{is_due, sooner, next_due, due_run}
 
 same_end : (j n : ℕ) → j ≤ n → n ≤ j → j ≡ n
 same_end j n a b = omega arith
@@ -105,37 +105,17 @@ module _ (d : Store) (s : Sound d) (c k : ℕ) where
   pub due_within : (p : ℕ) → due_run d c k (length d.runs) ≡ Some p → p < length d.runs
   due_within p e = (found p e).0
 
-  -- a run that is due, and begins no later than any unit at the clock or later
-  nearest_at : (p : ℕ) → p < length d.runs → is_due c k (run_at d p) ≡ true → ((l i : ℕ) → Later (meaning_of d) c k l i → (run_at d p).id.clock ≤ (unit_at (meaning_of d) l i).id.clock) → Nearest (meaning_of d) (stretch_of d) c k (Some p)
-  nearest_at p lt due first =
-      let r = due_is d c k p due in
-      let x = some_is (offset d p) (s.links.reached p lt) in
-      let u = first_unit d s p r.list x.0 lt r.listed x.1 in
+  pub nearest_some : (p : ℕ) → due_run d c k (length d.runs) ≡ Some p → Nearest (meaning_of d) (stretch_of d) c k (Some p)
+  nearest_some p e =
+      let b = found p e in
+      let r = due_is d c k p b.1 in
+      let x = some_is (offset d p) (s.links.reached p b.0) in
+      let u = first_unit d s p r.list x.0 b.0 r.listed x.1 in
       let uc : (unit_at (meaning_of d) r.list x.0).id.client ≡ (run_at d p).id.client = ap (λ (u : UnitOf). u.id.client) u in
       let ck : (unit_at (meaning_of d) r.list x.0).id.clock ≡ (run_at d p).id.clock + 0 = ap (λ (u : UnitOf). u.id.clock) u in (
         span r.list x.0 (run_at d p).len,
         stretched_some (run_at d p).list (offset d p) (run_at d p).len r.list x.0 r.listed x.1,
         uc ∙ r.client,
         (let past = r.past in omega (arith, ck, past)),
-        (λ l i h. let le = first l i h in omega (arith, ck, le)),
+        (λ l i h. let v = due_unit l i h in let le = b.2 v.0 v.1 v.2 in let w = v.3 in omega (arith, ck, le, w)),
       )
-
-  pub nearest_some : (p : ℕ) → due_run d c k (length d.runs) ≡ Some p → Nearest (meaning_of d) (stretch_of d) c k (Some p)
-  nearest_some p e =
-      let b = found p e in
-      nearest_at p b.0 b.1 (λ l i h. let v = due_unit l i h in let le = b.2 v.0 v.1 v.2 in let w = v.3 in omega (arith, le, w))
-
-  -- a listed run that has the unit at the clock
-  pub nearest_here : (p : ℕ) → p < length d.runs → is_some (run_at d p).list ≡ true → has (record { client = c; clock = k }) (run_at d p) ≡ true → Nearest (meaning_of d) (stretch_of d) c k (Some p)
-  nearest_here p lt li t =
-      let h = has_is (record { client = c; clock = k }) (run_at d p) t in
-      let from = h.from in
-      nearest_at p lt (and_from _ _ li (and_from _ _ (eq-eqb _ _ h.client) (lt-ltb _ _ h.to))) (λ l i later. let q = later.2 in omega (arith, from, q))
-
-  -- no unit of a list is at a clock that is not known, or later
-  pub nearest_unknown : clock_in d.clients c ≤ k → Nearest (meaning_of d) (stretch_of d) c k None
-  nearest_unknown le l i h =
-      let below = (lawful_is d s).below l i h.0 in
-      let e = ap (clock_in d.clients) h.1 in
-      let q = h.2 in
-      omega (arith, below, e, q, le)

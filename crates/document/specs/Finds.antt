@@ -1,5 +1,5 @@
 -- Where the run with a unit is.
-use Rattle.std.specs.Prelude.{◌≡◌, ℕ, zero, suc, ◌<◌, Bool, true, cond, ◌&&◌, length, is_some, Some, None, Option, ◌==◌, nat_le, nat_lt}
+use Rattle.std.specs.Prelude.{ℕ, zero, suc, Bool, cond, ◌&&◌, length, is_some, Some, None, Option, ◌==◌, nat_le, nat_lt}
 use Rattle.block.specs.declared.ids.Id.{Id}
 use Rattle.store.specs.declared.records.RunRecord.{RunRecord}
 use Rattle.store.specs.Clocks.{end_of}
@@ -17,16 +17,6 @@ has_at s id i = has id (run_at s i)
 -- the first run that has the unit
 abbrev pub find_run : Store → Id → Option ℕ
 find_run s id = first_bad (failing (has_at s id)) (length s.runs)
-
--- none, or a run in use that has the unit
-abbrev pub Hint : Store → Id → Option ℕ → Type 0
-Hint s id None = Unit {0}
-Hint s id (Some i) = (i < length s.runs) × (has_at s id i ≡ true)
-
--- the same of a run of a list
-abbrev pub DueHint : Store → Id → Option ℕ → Type 0
-DueHint s id None = Unit {0}
-DueHint s id (Some i) = (i < length s.runs) × (has_at s id i ≡ true) × (is_some (run_at s i).list ≡ true)
 
 -- a listed run of the client that reaches past the clock
 abbrev pub is_due : ℕ → ℕ → RunRecord → Bool

@@ -10,7 +10,7 @@ use Rattle.block.specs.declared.ids.Id.{Id}
 use Rattle.block.specs.declared.kind.Kind.TheVariants as kinds
 use Rattle.block.specs.Lookup.{same_id}
 use Rattle.block.proofs.Lookups.{same_id_is, same_id_from}
-use Rattle.reader.specs.Answers.{Apart, Onward, Found}
+use Rattle.reader.specs.Answers.{Onward, Found}
 use Rattle.store.specs.declared.records.ListRecord.{ListRecord}
 use Rattle.store.specs.declared.records.RunRecord.{RunRecord}
 use Rattle.store.specs.Clocks.{end_of}
@@ -69,21 +69,15 @@ module _ (d : Store) (s : Sound d) where
       let i = stretched_is (run_at d p).list (offset d p) (run_at d p).len t h in
       subst (RunOf (meaning_of d)) (sym i.is) (run_of i.l p i.x (record { below = placed p t h; list = i.list; from = i.from }))
 
-  pub apart_is : Apart (stretch_of d)
-  apart_is p q t u k h e same-list tl th ul uh =
+  pub faithful_is : (p q : ℕ) (t u : Stretch) → stretch_of d p ≡ Some t → stretch_of d q ≡ Some u → t.list ≡ u.list → t.from ≡ u.from → p ≡ q
+  faithful_is p q t u h k same-list same_from =
       let i = stretched_is (run_at d p).list (offset d p) (run_at d p).len t h in
-      let j = stretched_is (run_at d q).list (offset d q) (run_at d q).len u e in
+      let j = stretched_is (run_at d q).list (offset d q) (run_at d q).len u k in
       let el : j.l ≡ i.l = ap (λ (t : Stretch). t.list) (sym j.is) ∙ sym same-list ∙ ap (λ (t : Stretch). t.list) i.is in
-      let fp = ap (λ (t : Stretch). t.from) i.is in
-      let np = ap (λ (t : Stretch). t.count) i.is in
-      let fq = ap (λ (t : Stretch). t.from) j.is in
-      let nq = ap (λ (t : Stretch). t.count) j.is in
-      let at_p : Stands d s i.l p i.x = record { below = placed p t h; list = i.list; from = i.from } in
-      let at-q : Stands d s i.l q j.x = record { below = placed q u e; list = j.list ∙ ap Some el; from = j.from } in
-      ⊎_elim
-      (λ lt. sym (apart d s i.l p i.x q j.x at_p at-q (omega arith) (omega (arith, fp, np, fq))))
-      (λ le. apart d s i.l q j.x p i.x at-q at_p le (omega (arith, fp, fq, nq)))
-      (cases_lt i.x j.x)
+      let ex : j.x ≡ i.x = ap (λ (t : Stretch). t.from) (sym j.is) ∙ sym same_from ∙ ap (λ (t : Stretch). t.from) i.is in
+      let lt = placed p t h in
+      let pos = s.some p lt in
+      apart d s i.l q i.x p i.x (record { below = placed q u k; list = j.list ∙ ap Some el; from = j.from ∙ ap Some ex }) (record { below = lt; list = i.list; from = i.from }) (omega arith) (let posq = s.some q (placed q u k) in omega (arith, posq))
 
   -- each unit is of some run
   spread_from : (m l p x i : ℕ) → Stands d s l p x → x ≤ i → i < length (units_in d l) → i < x + m → OfRun d s l i
@@ -228,41 +222,17 @@ module _ (d : Store) (s : Sound d) (id : Id) where
   pub found_has : (p : ℕ) → find_run d id ≡ Some p → (p < length d.runs) × Has id (run_at d p)
   found_has p h = (found_within (failing (has_at d id)) (length d.runs) p h, has_is id (run_at d p) (not-false (has id (run_at d p)) (found_fails (failing (has_at d id)) (length d.runs) p h)))
 
-  same_holder : (p q : ℕ) → p < length d.runs → q < length d.runs → Has id (run_at d p) → Has id (run_at d q) → q ≡ p
-  same_holder p q lp lq f g =
-      let a = g.from in
-      let b = g.to in
-      let c = f.from in
-      let to = f.to in
-      same_run d s q p (id.clock - (run_at d q).id.clock) (id.clock - (run_at d p).id.clock) lq lp (omega (arith, a, b)) (omega (arith, c, to)) (unit_id d id (run_at d q) g ∙ sym (unit_id d id (run_at d p) f))
-
-  found_first : (p : ℕ) → p < length d.runs → has id (run_at d p) ≡ true → (o : Option ℕ) → find_run d id ≡ o → o ≡ Some p
-  found_first p lt t None h = no_both (has id (run_at d p)) (not-true (has id (run_at d p)) (none_all (failing (has_at d id)) (length d.runs) h p lt)) t
-  found_first p lt t (Some q) h = let f = found_has q h in ap Some (same_holder p q lt f.0 (has_is id (run_at d p) t) f.1)
-
-  -- a run that has the unit is the one that is found
-  pub found_there : (p : ℕ) → p < length d.runs → has id (run_at d p) ≡ true → find_run d id ≡ Some p
-  found_there p lt t = found_first p lt t (find_run d id) refl
-
-  found_known : (o : Option ℕ) → find_run d id ≡ o → clock_in d.clients id.client ≤ id.clock → o ≡ None
-  found_known None h le = refl
-  found_known (Some p) h le =
-      let f = found_has p h in
-      let k = s.known p f.0 in
-      let e = ap (clock_in d.clients) f.1.client in
-      let to = f.1.to in
-      absurd (omega (arith, k, e, to))
-
-  -- a unit that is not known is in no run
-  pub found_unknown : clock_in d.clients id.client ≤ id.clock → find_run d id ≡ None
-  found_unknown le = found_known (find_run d id) refl le
-
   pub found_apart : (p : ℕ) → find_run d id ≡ Some p → (run_at d p).list ≡ None → Found (meaning_of d) (stretch_of d) id None
   found_apart p h e =
       not_found
       (λ q lt t.
       let f = found_has p h in
-      let same : q ≡ p = same_holder p q f.0 lt f.1 (has_is id (run_at d q) t) in
+      let g = has_is id (run_at d q) t in
+      let a = g.from in
+      let b = g.to in
+      let c = f.1.from in
+      let to = f.1.to in
+      let same : q ≡ p = same_run d s q p (id.clock - (run_at d q).id.clock) (id.clock - (run_at d p).id.clock) lt f.0 (omega (arith, a, b)) (omega (arith, c, to)) (unit_id d id (run_at d q) g ∙ sym (unit_id d id (run_at d p) f.1)) in
       ap (λ m. (run_at d m).list) same ∙ e)
 
   pub found_some : (p l : ℕ) → find_run d id ≡ Some p → (run_at d p).list ≡ Some l → Found (meaning_of d) (stretch_of d) id (Some (p, id.clock - (run_at d p).id.clock))

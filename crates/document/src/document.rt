@@ -1,7 +1,7 @@
 ghost use Rattle.std.specs.Prelude.{◌≡◌, true, Some, None, MatchResult};
 ghost use Rattle.store.specs.Records.{held};
 ghost use Rattle.document.specs.Examined.{accepts, examined};
-ghost use Rattle.document.specs.LawFacts.{lawful_is, settled_is, apart_is};
+ghost use Rattle.document.specs.LawFacts.{lawful_is, settled_is, faithful_is};
 ghost use Rattle.document.specs.Meaning.{meaning_of, stretch_of};
 ghost use Rattle.document.specs.Slots.{shown_in};
 ghost use Rattle.document.specs.SoundFacts.{sound_from};
@@ -58,7 +58,7 @@ impl<'b, 'a> Reader for Document<'b, 'a> {
 
     ghost settled = { λ d. settled_is (held d.view.now) (sound_from (held d.view.now) d.shape) };
 
-    ghost apart = { λ d. apart_is (held d.view.now) (sound_from (held d.view.now) d.shape) };
+    ghost faithful = { λ d. faithful_is (held d.view.now) (sound_from (held d.view.now) d.shape) };
 
     fn first(&self, list: u32) -> Result<Option<u32>, Fault> {
         first_of(self.view, list)

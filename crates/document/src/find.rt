@@ -1,8 +1,8 @@
-ghost use Rattle.std.specs.Prelude.{◌≡◌, ◌≤◌, true, length};
+ghost use Rattle.std.specs.Prelude.{◌≡◌, true, length};
 ghost use Rattle.reader.specs.Answers.{Found, Nearest};
 ghost use Rattle.store.specs.Records.{held};
 ghost use Rattle.document.specs.Examined.{accepts};
-ghost use Rattle.document.specs.Finds.{has, find_run, Hint, DueHint, is_due, sooner, next_due, due_run};
+ghost use Rattle.document.specs.Finds.{has, find_run, is_due, sooner, next_due, due_run};
 ghost use Rattle.document.specs.Meaning.{clock_in, meaning_of, stretch_of};
 
 use block::ids::Id;
@@ -15,45 +15,8 @@ fn has(run: RunRecord, id: Id) -> bool
     run.id.client == id.client && run.id.clock <= id.clock && (id.clock as u64) < end_of(run)
 }
 
-fn begins_by(run: RunRecord, id: Id) -> bool {
-    run.id.client < id.client || (run.id.client == id.client && run.id.clock <= id.clock)
-}
-
-// How many runs of the order begin by this unit, as far as the order is one.
-fn begun_by(view: &View<'_>, id: Id) -> usize
-    ensures { result ≤ length view.now.order.now }
-{
-    let mut low = 0;
-    let mut high = view.order.len();
-    while low < high {
-        let mid = low + (high - low) / 2;
-        if begins_by(view.run(view.order[mid] as usize), id) {
-            low = mid + 1;
-        } else {
-            high = mid;
-        }
-    }
-    low
-}
-
-// A run that has the unit, if the order leads there.
-fn hinted(view: &View<'_>, id: Id) -> Option<usize>
-    ensures { Hint (held view.now) id result }
-{
-    let count = begun_by(view, id);
-    if count == 0 {
-        return None;
-    }
-    let i = view.order[count - 1] as usize;
-    if i < view.runs.len() && has(view.runs[i], id) {
-        Some(i)
-    } else {
-        None
-    }
-}
-
-// The first run that has the unit, found by a look at every run.
-fn run_with(view: &View<'_>, id: Id) -> Option<usize>
+// The first run that has the unit.
+pub fn run_with(view: &View<'_>, id: Id) -> Option<usize>
     ensures { result ≡ find_run (held view.now) id }
 {
     for (i, run) in view.runs.iter().enumerate() {
@@ -64,26 +27,12 @@ fn run_with(view: &View<'_>, id: Id) -> Option<usize>
     None
 }
 
-// The run that has the unit: where the order leads to it, in a few steps.
-fn run_of(view: &View<'_>, id: Id) -> Option<usize>
-    requires { accepts (held view.now) ≡ true }
-    ensures { result ≡ find_run (held view.now) id }
-{
-    if id.clock >= clock_of(view, id.client) {
-        return None;
-    }
-    match hinted(view, id) {
-        Some(i) => Some(i),
-        None => run_with(view, id),
-    }
-}
-
 // The run and the offset in it that hold an id.
 pub(crate) fn find_of(view: &View<'_>, id: Id) -> Option<(u32, u32)>
     requires { accepts (held view.now) ≡ true }
     ensures { Found (meaning_of (held view.now)) (stretch_of (held view.now)) id result }
 {
-    match run_of(view, id) {
+    match run_with(view, id) {
         None => None,
         Some(i) => {
             let run = view.run(i);
@@ -155,34 +104,10 @@ pub(crate) fn due_run(view: &View<'_>, client: u64, clock: u32) -> Option<usize>
     best
 }
 
-// The client's listed run at a clock, if the order leads there.
-fn due_hint(view: &View<'_>, client: u64, clock: u32) -> Option<usize>
-    ensures { DueHint (held view.now) (record { client = client; clock = clock }) result }
-{
-    match hinted(view, Id { client, clock }) {
-        None => None,
-        Some(i) => {
-            if view.run(i).list.is_some() {
-                Some(i)
-            } else {
-                None
-            }
-        }
-    }
-}
-
-// A client's listed run at a clock, or the next one after it: where the order leads to it, in a few
-// steps, else by a look at every run.
 pub(crate) fn nearest_of(view: &View<'_>, client: u64, clock: u32) -> Option<u32>
     requires { accepts (held view.now) ≡ true }
     ensures { Nearest (meaning_of (held view.now)) (stretch_of (held view.now)) client clock result }
 {
-    if clock >= clock_of(view, client) {
-        return None;
-    }
-    if let Some(i) = due_hint(view, client, clock) {
-        return Some(i as u32);
-    }
     match due_run(view, client, clock) {
         None => None,
         Some(i) => Some(i as u32),

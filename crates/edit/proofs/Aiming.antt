@@ -1,15 +1,16 @@
 -- An edit that is not refused has found its run.
-use Rattle.std.proofs.Common.{◌≡◌, ℕ, ◌<◌, Bool, true, false, cond, ◌&&◌, ltb, length, is_some, Some, None, Ok, Err, Option, Result, sym, refl, ap, ◌∙◌, arith}
+use Rattle.std.proofs.Common.{◌≡◌, ℕ, ◌<◌, Bool, true, false, cond, ltb, length, is_some, Some, None, Ok, Err, Option, Result, sym, refl, ap, ◌∙◌, arith}
 use Rattle.std.proofs.lemmas.Bool.{and_parts, not-false}
 use Rattle.block.specs.declared.fault.Fault.{Fault}
 use Rattle.block.specs.declared.ids.Id.{Id}
-use Rattle.store.specs.First.{first_bad, failing}
+use Rattle.store.specs.declared.tables.Tables.{Tables}
+use Rattle.store.specs.First.{failing}
 use Rattle.store.specs.FirstFacts.{found_within, found_fails}
+use Rattle.store.specs.Limits.{used}
 use Rattle.store.specs.Records.{Store, run_at}
 use Rattle.document.specs.Finds.{has}
 use Rattle.document.specs.Meaning.{clock_in}
-use Rattle.edit.specs.Contents.{Contents, used_of, fault_in}
-use Rattle.edit.specs.Aims.{lists_unit, lists_unit_at, listed_run, or_refused, placed, unless, aimed, and_then, can_be_redone, unless_misplaced, redo_placed, redo_aimed}
+use Rattle.edit.specs.Aims.{table_fault, lists_unit, lists_unit_at, listed_run, or_refused, placed, unless, aimed, and_then, can_be_redone, unless_misplaced, redo_placed, redo_aimed}
 
 unless_ok : (o : Option Fault) (r : Result ℕ Fault) (i : ℕ) → Ok i ≡ unless o r → (o ≡ None) × (r ≡ Ok i)
 unless_ok None r i h = (refl, sym h)
@@ -38,30 +39,30 @@ placed_ok s id i h =
     let p = and_parts (is_some (run_at s i).list) (has id (run_at s i)) t in
     record { within = found_within (failing (lists_unit_at s id)) (length s.runs) i e; listed = p.0; there = p.1 }
 
-pub record Aimed (c : Contents) (id : Id) (i : ℕ) : Type 0 where
-  pub examined : fault_in c ≡ None
-  pub at : Placed (used_of c) id i
+pub record Aimed (t : Tables) (id : Id) (i : ℕ) : Type 0 where
+  pub examined : table_fault t ≡ None
+  pub at : Placed (used t) id i
 
-pub aimed_ok : (c : Contents) (id : Id) (i : ℕ) → Ok i ≡ aimed c id → Aimed c id i
-aimed_ok c id i h =
-    let p = unless_ok (fault_in c) (placed (used_of c) id) i h in
-    record { examined = p.0; at = placed_ok (used_of c) id i p.1 }
+pub aimed_ok : (t : Tables) (id : Id) (i : ℕ) → Ok i ≡ aimed t id → Aimed t id i
+aimed_ok t id i h =
+    let p = unless_ok (table_fault t) (placed (used t) id) i h in
+    record { examined = p.0; at = placed_ok (used t) id i p.1 }
 
 and_then_ok : (r : Result ℕ Fault) (k : ℕ → Result ℕ Fault) (i : ℕ) → and_then r k ≡ Ok i → (j : ℕ) × (r ≡ Ok j) × (k j ≡ Ok i)
 and_then_ok (Ok j) k i h = (j, refl, h)
 and_then_ok (Err f) k i h = let z : ◌≡◌ {A = ℕ} 0 1 = cc in absurd (omega arith)
 
 -- the run and that of its successor
-pub record RedoAimed (c : Contents) (id next : Id) (i : ℕ) : Type 0 where
-  pub examined : fault_in c ≡ None
-  pub at : Placed (used_of c) id i
+pub record RedoAimed (t : Tables) (id next : Id) (i : ℕ) : Type 0 where
+  pub examined : table_fault t ≡ None
+  pub at : Placed (used t) id i
   pub next_run : ℕ
-  pub next_at : Placed (used_of c) next next_run
+  pub next_at : Placed (used t) next next_run
 
-pub redo_aimed_ok : (c : Contents) (id next : Id) (i : ℕ) → Ok i ≡ redo_aimed c id next → RedoAimed c id next i
-redo_aimed_ok c id next i h =
-    let p = unless_ok (fault_in c) (redo_placed (used_of c) id next) i h in
-    let a = and_then_ok (placed (used_of c) id) (λ i. and_then (placed (used_of c) next) (λ j. unless_misplaced (used_of c) id i)) i p.1 in
-    let b = and_then_ok (placed (used_of c) next) (λ j. unless_misplaced (used_of c) id a.0) i a.2 in
-    let e : a.0 ≡ i = same_ok a.0 i (cond_ok (can_be_redone (run_at (used_of c) a.0)) (Ok a.0) _ i b.2) in
-    record { examined = p.0; at = placed_ok (used_of c) id i (a.1 ∙ ap Ok e); next_run = b.0; next_at = placed_ok (used_of c) next b.0 b.1 }
+pub redo_aimed_ok : (t : Tables) (id next : Id) (i : ℕ) → Ok i ≡ redo_aimed t id next → RedoAimed t id next i
+redo_aimed_ok t id next i h =
+    let p = unless_ok (table_fault t) (redo_placed (used t) id next) i h in
+    let a = and_then_ok (placed (used t) id) (λ i. and_then (placed (used t) next) (λ j. unless_misplaced (used t) id i)) i p.1 in
+    let b = and_then_ok (placed (used t) next) (λ j. unless_misplaced (used t) id a.0) i a.2 in
+    let e : a.0 ≡ i = same_ok a.0 i (cond_ok (can_be_redone (run_at (used t) a.0)) (Ok a.0) _ i b.2) in
+    record { examined = p.0; at = placed_ok (used t) id i (a.1 ∙ ap Ok e); next_run = b.0; next_at = placed_ok (used t) next b.0 b.1 }

@@ -10,9 +10,9 @@ use Rattle.links.specs.Lengths.{visible_sum}
 use Rattle.document.specs.Examined.{examined}
 use Rattle.document.specs.Meaning.{spell, clock_in, meaning_of}
 use Rattle.document.specs.PassingFacts.{Passing}
-use Rattle.edit.specs.Contents.{Contents, used_of, counted_of, fault_in}
 use Rattle.edit.specs.Creation.{root_fault, rooted, created, Blank}
-use Rattle.edit.proofs.Uses.{none_parts}
+use Rattle.edit.specs.Edits.{Contents}
+use Rattle.edit.proofs.Uses.{none_parts, used_of, counted_of, fault_in}
 use Rattle.edit.proofs.Verdicts.{no_fault}
 
 -- one root more

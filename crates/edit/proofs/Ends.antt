@@ -13,12 +13,11 @@ use Rattle.document.specs.Meaning.{unit_of, meaning_of, offset}
 use Rattle.document.specs.PassingFacts.{Passing}
 use Rattle.document.specs.SoundFacts.{sound}
 use Rattle.history.specs.Events.{Step, dead}
-use Rattle.edit.specs.Contents.{Contents, used_of, fault_in}
-use Rattle.edit.specs.Edits.{with_all, replaced, killed, lowered, tombstoned}
+use Rattle.edit.specs.Edits.{Contents, with_all, replaced, killed, lowered, tombstoned}
 use Rattle.edit.specs.Happenings.{list_of, from_of, death}
 use Rattle.edit.proofs.Deaths.{dead_alike}
 use Rattle.edit.proofs.Touches.{worth_still, turns}
-use Rattle.edit.proofs.Uses.{run_same}
+use Rattle.edit.proofs.Uses.{used_of, fault_in, run_same}
 
 pub some_value : (o : Option ℕ) → is_some o ≡ true → o ≡ Some (unwrap_or o 0)
 some_value None h = let z : ◌≡◌ {A = ℕ} 0 1 = cc in absurd (omega arith)

@@ -4,9 +4,9 @@ use Rattle.block.specs.declared.fault.Fault.{Fault}
 use Rattle.store.specs.Records.{Store}
 use Rattle.document.specs.Meaning.{meaning_of}
 use Rattle.history.specs.Events.{Event, Step}
-use Rattle.edit.specs.Contents.{Contents, used_of}
-use Rattle.edit.specs.Edits.{with_all, edited, answer}
+use Rattle.edit.specs.Edits.{Contents, with_all, edited, answer}
 use Rattle.edit.specs.Happenings.{happened}
+use Rattle.edit.proofs.Uses.{used_of}
 
 pub answered : (i : ℕ) (o : Result ℕ Fault) → Ok i ≡ o → Ok tt ≡ answer o
 answered i o found = ap answer found

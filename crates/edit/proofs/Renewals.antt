@@ -14,15 +14,14 @@ use Rattle.document.specs.Meaning.{unit_of, meaning_of, offset}
 use Rattle.document.specs.PassingFacts.{Passing}
 use Rattle.document.specs.SoundFacts.{sound, fits_parts}
 use Rattle.history.specs.Events.{Step, redone_as}
-use Rattle.edit.specs.Contents.{Contents, used_of, fault_in}
-use Rattle.edit.specs.Edits.{with_all, replaced, succeeded, redone_by}
+use Rattle.edit.specs.Edits.{Contents, with_all, replaced, succeeded, redone_by}
 use Rattle.edit.specs.Happenings.{list_of, from_of, renewal}
 use Rattle.edit.proofs.Aiming.{Placed}
 use Rattle.edit.proofs.Ends.{some_value}
 use Rattle.edit.proofs.Still.{still, Alike, passing_still}
 use Rattle.edit.proofs.Sums.{each_run, sum_after}
 use Rattle.edit.proofs.Touches.{worth_still, turns}
-use Rattle.edit.proofs.Uses.{passes, used_replaced, counted_replaced, run_same}
+use Rattle.edit.proofs.Uses.{used_of, fault_in, passes, used_replaced, counted_replaced, run_same}
 use Rattle.edit.proofs.Verdicts.{no_fault}
 
 module _ (s : Store) (p : Passing s) (i : ℕ) (lt : i < length s.runs) (next : Id) (j : ℕ) (at : Placed s next j) where

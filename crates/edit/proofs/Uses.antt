@@ -13,9 +13,18 @@ use Rattle.store.specs.Refusals.{fault_at}
 use Rattle.links.specs.Lengths.{weight}
 use Rattle.document.specs.Examined.{examined}
 use Rattle.document.specs.PassingFacts.{Passing, passing_from, accepts_none}
-use Rattle.edit.specs.Contents.{Contents, used_of, counted_of, fault_in}
-use Rattle.edit.specs.Edits.{with_all, replaced, killed, shorter, lowered, tombstoned}
+use Rattle.edit.specs.Edits.{Contents, with_all, replaced, killed, shorter, lowered, tombstoned}
 use Rattle.edit.proofs.Deaths.{long_enough, dead_examined}
+
+-- the records in use, and whether the counts fit, by what tables hold
+abbrev pub used_of : Contents → Store
+used_of c = record { runs = take c.run_count c.all.runs; lists = take c.list_count c.all.lists; clients = take c.client_count c.all.clients; entries = take c.entry_count c.all.entries; bytes = take c.byte_count c.all.bytes }
+
+abbrev pub counted_of : Contents → Bool
+counted_of c = count_fits c.run_count (length c.all.runs) 4096 && (count_fits c.list_count (length c.all.lists) 256 && (count_fits c.client_count (length c.all.clients) 64 && (count_fits c.entry_count (length c.all.entries) 8192 && count_fits c.byte_count (length c.all.bytes) 65536)))
+
+abbrev pub fault_in : Contents → Option Fault
+fault_in c = cond (counted_of c) (examined (used_of c)) (Some (fault_at OutOfRange Nowhere))
 
 pub none_parts : (b : Bool) (o : Option Fault) (f : Fault) → cond b o (Some f) ≡ None → (b ≡ true) × (o ≡ None)
 none_parts true o f h = (refl, h)

@@ -1,29 +1,29 @@
 -- What an edit looks for before it changes anything, and how it refuses.
 use Rattle.std.specs.Prelude.{◌≡◌, ℕ, Bool, cond, not, ◌&&◌, length, is_some, Some, None, Ok, Err, Option, Result, nat_lt}
 use Rattle.block.specs.declared.fault.Code.{Code}
-use Rattle.block.specs.declared.fault.Code.TheVariants.{NotKnown, NotListed, Misplaced}
+use Rattle.block.specs.declared.fault.Code.TheVariants.{OutOfRange, NotKnown, NotListed, Misplaced}
 use Rattle.block.specs.declared.fault.Fault.{Fault}
 use Rattle.block.specs.declared.fault.Part.TheVariants as parts
 use Rattle.block.specs.declared.fault.Spot.{Spot}
-use Rattle.block.specs.declared.fault.Spot.TheVariants.{Unit}
+use Rattle.block.specs.declared.fault.Spot.TheVariants.{Nowhere, Unit}
 use Rattle.block.specs.declared.ids.Id.{Id}
 use Rattle.store.specs.declared.records.RunRecord.{RunRecord}
 use Rattle.store.specs.declared.records.View.{View}
 use Rattle.store.specs.declared.tables.Tables.{Tables}
-use Rattle.store.specs.Clocks.{end_of}
 use Rattle.store.specs.First.{first_bad, failing}
-use Rattle.store.specs.Limits.{used}
+use Rattle.store.specs.Limits.{is_counted, used}
 use Rattle.store.specs.Records.{Store, held, run_at}
+use Rattle.store.specs.Refusals.{fault_at}
+use Rattle.document.specs.Examined.{examined}
 use Rattle.document.specs.Finds.{has}
 use Rattle.document.specs.Meaning.{clock_in}
-use Rattle.edit.specs.Contents.{Contents, all_of, used_of, fault_in}
 
 abbrev pub fault_of : Code → Spot → Fault
 fault_of code spot = record { code = code; part = parts.Edit; spot = spot; clips = 0 }
 
--- the fault that examination finds
+-- the fault that examination finds: a count out of range, else the first of the records
 abbrev pub table_fault : Tables → Option Fault
-table_fault t = fault_in (all_of t)
+table_fault t = cond (is_counted t) (examined (used t)) (Some (fault_at OutOfRange Nowhere))
 
 -- the tables pass and lend their records in use, or the fault is told
 abbrev pub Passed : Tables → Result View Fault → Type 0
@@ -54,8 +54,8 @@ unless (Some f) r = Err f
 unless None r = r
 
 -- the run that an edit of a unit touches, or the first fault that is met
-abbrev pub aimed : Contents → Id → Result ℕ Fault
-aimed c id = unless (fault_in c) (placed (used_of c) id)
+abbrev pub aimed : Tables → Id → Result ℕ Fault
+aimed t id = unless (table_fault t) (placed (used t) id)
 
 abbrev pub and_then : Result ℕ Fault → (ℕ → Result ℕ Fault) → Result ℕ Fault
 and_then (Ok i) k = k i
@@ -72,5 +72,5 @@ unless_misplaced s id i = cond (can_be_redone (run_at s i)) (Ok i) (Err (fault_o
 abbrev pub redo_placed : Store → Id → Id → Result ℕ Fault
 redo_placed s id next = and_then (placed s id) (λ i. and_then (placed s next) (λ j. unless_misplaced s id i))
 
-abbrev pub redo_aimed : Contents → Id → Id → Result ℕ Fault
-redo_aimed c id next = unless (fault_in c) (redo_placed (used_of c) id next)
+abbrev pub redo_aimed : Tables → Id → Id → Result ℕ Fault
+redo_aimed t id next = unless (table_fault t) (redo_placed (used t) id next)

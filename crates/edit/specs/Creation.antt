@@ -7,7 +7,7 @@ use Rattle.block.specs.declared.fault.Spot.TheVariants.{Nowhere}
 use Rattle.store.specs.declared.records.ListRecord.{ListRecord}
 use Rattle.store.specs.Records.{no_list}
 use Rattle.edit.specs.Aims.{fault_of}
-use Rattle.edit.specs.Contents.{Contents}
+use Rattle.edit.specs.Edits.{Contents}
 
 -- a document has 1 to 256 roots, and the table of lists has room for them
 abbrev pub root_fault : ℕ → ℕ → Option Fault

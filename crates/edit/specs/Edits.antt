@@ -4,9 +4,21 @@ use Rattle.block.specs.declared.fault.Fault.{Fault}
 use Rattle.block.specs.declared.ids.Id.{Id}
 use Rattle.store.specs.declared.records.ListRecord.{ListRecord}
 use Rattle.store.specs.declared.records.RunRecord.{RunRecord}
+use Rattle.store.specs.declared.tables.Tables.{Tables}
 use Rattle.store.specs.Records.{Store, run_at, no_list}
 use Rattle.links.specs.Lengths.{weight}
-use Rattle.edit.specs.Contents.{Contents}
+
+-- what tables hold: all their records, in use or not, and the counts
+pub record Contents : Type 0 where
+  pub all : Store
+  pub run_count : ℕ
+  pub list_count : ℕ
+  pub client_count : ℕ
+  pub entry_count : ℕ
+  pub byte_count : ℕ
+
+abbrev pub all_of : Tables → Contents
+all_of t = record { all = record { runs = t.runs.now; lists = t.lists.now; clients = t.clients.now; entries = t.entries.now; bytes = t.bytes.now }; run_count = t.run_count; list_count = t.list_count; client_count = t.client_count; entry_count = t.entry_count; byte_count = t.byte_count }
 
 -- the records after an edit of those before, and the same counts
 abbrev pub with_all : Contents → Store → Contents

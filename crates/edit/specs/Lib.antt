@@ -1,4 +1,3 @@
-pub mod Contents
 pub mod Aims
 pub mod Edits
 pub mod Happenings

@@ -3,7 +3,6 @@ ghost use Rattle.store.specs.First.{first_bad, failing};
 ghost use Rattle.store.specs.Records.{held};
 ghost use Rattle.document.specs.Meaning.{clock_in};
 ghost use Rattle.edit.specs.Aims.{fault_of, lists_unit, listed_run, placed, Passed, aimed};
-ghost use Rattle.edit.specs.Contents.{all_of};
 
 use block::fault::{Code, Fault, Part, Spot};
 use block::ids::Id;
@@ -13,7 +12,7 @@ use store::records::{RunRecord, View};
 use store::tables::Tables;
 
 // A fault that an edit has.
-pub fn fault_of(code: Code, spot: Spot) -> Fault
+pub(crate) fn fault_of(code: Code, spot: Spot) -> Fault
     ensures { result ≡ fault_of code spot }
 {
     Fault {
@@ -58,7 +57,7 @@ fn known_clock(view: &View<'_>, client: u64) -> u32
 }
 
 // The run of a list that has the unit; refused where the unit is not known, or in no list.
-pub fn placed(view: &View<'_>, id: Id) -> Result<usize, Fault>
+pub(crate) fn placed(view: &View<'_>, id: Id) -> Result<usize, Fault>
     ensures { result ≡ placed (held view.now) id }
 {
     if id.clock >= known_clock(view, id.client) {
@@ -71,7 +70,7 @@ pub fn placed(view: &View<'_>, id: Id) -> Result<usize, Fault>
 }
 
 // The records in use; refused where the tables do not pass examination.
-pub fn passed<'b>(tables: &'b Tables<'_>) -> Result<View<'b>, Fault>
+pub(crate) fn passed<'b>(tables: &'b Tables<'_>) -> Result<View<'b>, Fault>
     ensures { Passed tables.now result }
 {
     match tables.view() {
@@ -84,8 +83,8 @@ pub fn passed<'b>(tables: &'b Tables<'_>) -> Result<View<'b>, Fault>
 }
 
 // The run that an edit of a unit touches.
-pub fn aim(tables: &Tables<'_>, id: Id) -> Result<usize, Fault>
-    ensures { result ≡ aimed (all_of tables.now) id }
+pub(crate) fn aim(tables: &Tables<'_>, id: Id) -> Result<usize, Fault>
+    ensures { result ≡ aimed tables.now id }
 {
     match passed(tables) {
         Err(fault) => Err(fault),

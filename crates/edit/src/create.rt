@@ -2,8 +2,8 @@ ghost use Rattle.std.specs.Prelude.{◌≡◌, ◌≤◌, true, length, is_ok, N
 ghost use Rattle.store.specs.Limits.{used};
 ghost use Rattle.document.specs.Meaning.{meaning_of};
 ghost use Rattle.edit.specs.Aims.{table_fault};
-ghost use Rattle.edit.specs.Contents.{all_of};
 ghost use Rattle.edit.specs.Creation.{root_fault, rooted, created, unless_fault, Blank};
+ghost use Rattle.edit.specs.Edits.{all_of};
 
 use crate::aim::fault_of;
 use block::fault::{Code, Fault, Spot};

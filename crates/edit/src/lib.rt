@@ -1,6 +1,6 @@
 #![tactic(auto)]
 
-pub mod aim;
+mod aim;
 pub mod create;
 pub mod redo;
 pub mod tombstone;

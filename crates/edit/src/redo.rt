@@ -4,8 +4,7 @@ ghost use Rattle.store.specs.Records.{held};
 ghost use Rattle.document.specs.Meaning.{meaning_of};
 ghost use Rattle.history.specs.Events.{Step};
 ghost use Rattle.edit.specs.Aims.{can_be_redone, unless_misplaced, redo_placed, redo_aimed, table_fault};
-ghost use Rattle.edit.specs.Contents.{all_of};
-ghost use Rattle.edit.specs.Edits.{with_all, redone_by, edited, answer};
+ghost use Rattle.edit.specs.Edits.{all_of, with_all, redone_by, edited, answer};
 ghost use Rattle.edit.specs.Happenings.{renewal, happened};
 
 use crate::aim::{fault_of, passed, placed};
@@ -43,7 +42,7 @@ fn redo_placed(view: &View<'_>, id: Id, successor: Id) -> Result<usize, Fault>
 }
 
 fn redo_aim(tables: &Tables<'_>, id: Id, successor: Id) -> Result<usize, Fault>
-    ensures { result ≡ redo_aimed (all_of tables.now) id successor }
+    ensures { result ≡ redo_aimed tables.now id successor }
 {
     match passed(tables) {
         Err(fault) => Err(fault),
@@ -60,10 +59,10 @@ fn renew(tables: &mut Tables<'_>, i: usize, successor: Id)
 
 // The dead run of the unit has this successor from now on.
 pub fn redo(tables: &mut Tables<'_>, id: Id, successor: Id) -> Result<(), Fault>
-    ensures answer { result ≡ answer (redo_aimed (all_of tables.old) id successor) }
-    ensures tables { all_of tables.new ≡ edited (redone_by successor) (all_of tables.old) (redo_aimed (all_of tables.old) id successor) }
+    ensures answer { result ≡ answer (redo_aimed tables.old id successor) }
+    ensures tables { all_of tables.new ≡ edited (redone_by successor) (all_of tables.old) (redo_aimed tables.old id successor) }
     ensures examined { is_ok result ≡ true → table_fault tables.new ≡ None }
-    ensures step { Step (meaning_of (used tables.old)) (happened (renewal successor) (used tables.old) (redo_aimed (all_of tables.old) id successor)) (meaning_of (used tables.new)) }
+    ensures step { Step (meaning_of (used tables.old)) (happened (renewal successor) (used tables.old) (redo_aimed tables.old id successor)) (meaning_of (used tables.new)) }
 {
     match redo_aim(tables, id, successor) {
         Err(fault) => Err(fault),

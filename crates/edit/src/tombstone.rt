@@ -4,8 +4,7 @@ ghost use Rattle.store.specs.Records.{run_at};
 ghost use Rattle.document.specs.Meaning.{meaning_of};
 ghost use Rattle.history.specs.Events.{Step};
 ghost use Rattle.edit.specs.Aims.{aimed, table_fault};
-ghost use Rattle.edit.specs.Contents.{all_of};
-ghost use Rattle.edit.specs.Edits.{with_all, tombstoned, edited, answer};
+ghost use Rattle.edit.specs.Edits.{all_of, with_all, tombstoned, edited, answer};
 ghost use Rattle.edit.specs.Happenings.{death, happened};
 
 use crate::aim::aim;
@@ -28,11 +27,11 @@ fn kill(tables: &mut Tables<'_>, i: usize)
 
 // The run of the unit is dead from now on; a dead one stays so.
 pub fn tombstone(tables: &mut Tables<'_>, id: Id) -> Result<(), Fault>
-    ensures answer { result ≡ answer (aimed (all_of tables.old) id) }
-    ensures tables { all_of tables.new ≡ edited tombstoned (all_of tables.old) (aimed (all_of tables.old) id) }
-    ensures again { (i : ℕ) → aimed (all_of tables.old) id ≡ Ok i → (run_at (used tables.old) i).live ≡ false → all_of tables.new ≡ all_of tables.old }
+    ensures answer { result ≡ answer (aimed tables.old id) }
+    ensures tables { all_of tables.new ≡ edited tombstoned (all_of tables.old) (aimed tables.old id) }
+    ensures again { (i : ℕ) → aimed tables.old id ≡ Ok i → (run_at (used tables.old) i).live ≡ false → all_of tables.new ≡ all_of tables.old }
     ensures examined { is_ok result ≡ true → table_fault tables.new ≡ None }
-    ensures step { Step (meaning_of (used tables.old)) (happened death (used tables.old) (aimed (all_of tables.old) id)) (meaning_of (used tables.new)) }
+    ensures step { Step (meaning_of (used tables.old)) (happened death (used tables.old) (aimed tables.old id)) (meaning_of (used tables.new)) }
 {
     match aim(tables, id) {
         Err(fault) => Err(fault),

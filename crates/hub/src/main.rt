@@ -49,7 +49,6 @@ fn examined(rt: &impl Print, heap: Global, store: &Store, lines: &[String]) -> i
         clients: store.clients.as_slice(),
         entries: store.entries.as_slice(),
         bytes: store.bytes.as_slice(),
-        order: &[],
     };
     let lists = match u32::try_from(store.lists.len()) {
         Ok(n) => n,

@@ -2,7 +2,7 @@
 use Rattle.std.proofs.Common.{◌≡◌, ℕ, ◌+◌, ◌-◌, ◌^◌, ◌<◌, ◌≤◌, List, [], ◌∷◌, Some, None, Option, sym, refl, ap, ◌∙◌, subst, arith}
 use Rattle.block.specs.Units.{Meaning, Lawful, Stretch, RunOf, unit_at}
 use Rattle.reader.specs.declared.reader.Description.{Description}
-use Rattle.reader.specs.Answers.{Apart, Onward, Described, described}
+use Rattle.reader.specs.Answers.{Onward, Described, described}
 use Rattle.iter.specs.declared.run.Run.{Run}
 use Rattle.iter.specs.Runs.{RunsFrom, FromHere, FromStretch, Taken, span_left}
 
@@ -56,16 +56,14 @@ module _ {P : Type 0} (m : Meaning) (st : P → Option Stretch) (settled : (p : 
       let run = settled p t e in
       rw (e, h.1) (omega (arith, run.some, run.within))
 
-  module _ (apart : Apart st) where
+  module _ (faithful : (p q : P) (t u : Stretch) → st p ≡ Some t → st q ≡ Some u → t.list ≡ u.list → t.from ≡ u.from → p ≡ q) where
     -- the run at a place is the first of the runs from there on
     pub first_run : (p : P) (t : Stretch) (d : Description) → st p ≡ Some t → d ≡ described m t → (q : Option P) → Onward m st t.list (t.from + t.count) q → {S : Type 0} (ahead : S → List (Run P) → Type 0) (s s' : S) → ((vs : List (Run P)) → FromHere m st q vs → ahead s' vs) → (ws : List (Run P)) → RunsFrom m st t.list t.from ws → Taken ahead s ws (Some (record { place = p; about = d })) s'
     first_run p t d e dd q right ahead s s' next [] r =
         let run = settled p t e in
         absurd (omega (arith, run.some, run.within))
     first_run p t d e dd q right ahead s s' next (w ∷ ws) (begins, desc, rest) =
-        let here = (settled p t e).some in
-        let there = (settled w.place _ begins.1).some in
-        let same : w.place ≡ p = apart w.place p _ t t.from begins.1 e refl (omega arith) (omega arith) (omega arith) (omega arith) in
+        let same : w.place ≡ p = faithful w.place p _ t begins.1 e refl refl in
         let (u, f, about) = described_some m (st w.place) w.about desc in
         let stretch : u ≡ t = cc in
         let whole : w.about ≡ d = cc in

@@ -3,9 +3,9 @@ use Rattle.std.proofs.Common.{◌≡◌, ℕ, ◌+◌, ◌-◌, ◌<◌, List, [
 use Rattle.block.specs.declared.ids.Id.{Id}
 use Rattle.block.specs.Units.{Meaning, Lawful, Stretch, RunOf, unit_at}
 use Rattle.reader.specs.declared.reader.Description.{Description}
-use Rattle.reader.specs.Answers.{Apart, Nearest, Later, Described, described}
+use Rattle.reader.specs.Answers.{Nearest, Later, Described, described}
 use Rattle.iter.specs.declared.run.Run.{Run}
-use Rattle.iter.specs.Runs.{ByClock, Taken}
+use Rattle.iter.specs.Runs.{Apart, ByClock, Taken}
 use Rattle.iter.proofs.Chains.{described_some, same_run, run_known}
 
 pub same_id : (a b : Id) → a.client ≡ b.client → a.clock ≡ b.clock → a ≡ b

@@ -12,9 +12,9 @@ Taken ahead s [] r t = (r ≡ None) × (t ≡ s)
 Taken ahead s (w ∷ ws) r t = (r ≡ Some w) × ahead t ws
 
 -- what was given and what is ahead then were ahead before; where nothing was given, nothing was ahead
-abbrev pub Given : {S P : Type 0} → (S → List (Run P) → Type 0) → S → Option (Run P) → S → Type 0
-Given ahead s None t = ahead s []
-Given ahead s (Some w) t = (ws : List (Run _)) → ahead t ws → ahead s (w ∷ ws)
+abbrev pub Given : {S P : Type 0} → (S → List (Run P) → Type 0) → (S → Type 0) → S → Option (Run P) → S → Type 0
+Given ahead certain s None t = certain s → ahead s []
+Given ahead certain s (Some w) t = (certain s → certain t) × ((ws : List (Run _)) → ahead t ws → ahead s (w ∷ ws))
 
 -- a run has a unit, and its clocks fit 32 bits
 abbrev pub Fit : {P : Type 0} → Option (Run P) → Type 0
@@ -54,6 +54,10 @@ span_left m st (Some p) = most_runs m (st p)
 abbrev pub Opens : {R P : Type 0} → (R → Meaning) → (R → P → Option Stretch) → (R → ℕ) → R → ℕ → Result (ListSource R P) (R × Fault) → Type 0
 Opens meaning stretch layers r l (Ok s) = (l < (meaning r).lists) × (s.reader ≡ r) × ((ws : List (Run _)) → RunsFrom (meaning r) (stretch r) l 0 ws → FromHere (meaning r) (stretch r) s.at ws) × ((ws : List (Run _)) → FromHere (meaning r) (stretch r) s.at ws → RunsFrom (meaning r) (stretch r) l 0 ws)
 Opens meaning stretch layers r l (Err e) = ((meaning r).lists ≤ l) × (e.0 ≡ r) × (e.1 ≡ no_list (layers r) l)
+
+-- no unit stands under two places
+abbrev pub Apart : {P : Type 0} → (P → Option Stretch) → Type 0
+Apart st = (p q : _) (t u : Stretch) (i : ℕ) → st p ≡ Some t → st q ≡ Some u → t.list ≡ u.list → t.from ≤ i → i < t.from + t.count → u.from ≤ i → i < u.from + u.count → p ≡ q
 
 -- ws are a client's listed runs from a clock on, the first of which may begin before it
 abbrev pub ByClock : {P : Type 0} → Meaning → (P → Option Stretch) → ℕ → ℕ → List (Run P) → Type 0

@@ -1,5 +1,5 @@
 ghost use Rattle.std.specs.Prelude.{◌≡◌, ◌-◌};
-ghost use Rattle.iter.specs.Runs.{ByClock};
+ghost use Rattle.iter.specs.Runs.{Apart, ByClock};
 
 use crate::run::Run;
 use crate::source::Source;
@@ -40,7 +40,9 @@ impl<R: Reader> ClientSource<R> {
 impl<R: Reader> Source for ClientSource<R> {
     type Place = R::Place;
 
-    ghost ahead = { λ s ws. ByClock (R.Reader.meaning s.reader) (R.Reader.stretch s.reader) s.client s.clock ws };
+    ghost ahead = { λ s ws. Apart (R.Reader.stretch s.reader) × ByClock (R.Reader.meaning s.reader) (R.Reader.stretch s.reader) s.client s.clock ws };
+
+    ghost certain = { λ s. Apart (R.Reader.stretch s.reader) };
 
     ghost left = { λ s. (R.Reader.meaning s.reader).known s.client - s.clock };
 

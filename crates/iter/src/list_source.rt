@@ -40,6 +40,8 @@ impl<R: Reader> Source for ListSource<R> {
 
     ghost ahead = { λ s ws. FromHere (R.Reader.meaning s.reader) (R.Reader.stretch s.reader) s.at ws };
 
+    ghost certain = { λ _. Unit {0} };
+
     ghost left = { λ s. span_left (R.Reader.meaning s.reader) (R.Reader.stretch s.reader) s.at };
 
     fn next(&mut self) -> Option<Run<R::Place>> {

@@ -12,20 +12,23 @@ pub trait Source {
     // These runs are still to come.
     ghost ahead: { Self → List (Run Self.Place) → Type 0 };
 
+    // It is certain which runs are still to come.
+    ghost certain: { Self → Type 0 };
+
     // How many runs are still to come at most.
     ghost left: { Self → ℕ };
 
     // The next run; none exactly if none is still to come, and then nothing changes.
     fn next(&mut self) -> Option<Run<Self::Place>>
         ensures taken { (ws : List (Run Self.Place)) → ahead self.old ws → Taken ahead self.old ws result self.new }
-        ensures given { Given ahead self.old result self.new }
+        ensures given { Given ahead certain self.old result self.new }
         ensures fit { Fit result }
         ensures nearer { Nearer left self.old result self.new };
 }
 
-// Takes all the runs that are still to come.
+// Takes all the runs that are still to come. Where it is certain which they are, there are such runs.
 pub fn exhaust<S: Source>(source: &mut S)
-    ensures { ((ws : List (Run S.Place)) × S.Source.ahead source.old ws) × S.Source.ahead source.new [] }
+    ensures { S.Source.certain source.old → ((ws : List (Run S.Place)) × S.Source.ahead source.old ws) × S.Source.ahead source.new [] }
 {
     while let Some(_run) = source.next() {}
 }

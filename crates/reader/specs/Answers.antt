@@ -17,10 +17,6 @@ use Rattle.reader.specs.declared.reader.Description.{Description}
 abbrev pub no_list : ℕ → ℕ → Fault
 no_list layers l = record { code = NoSuchList; part = Tables; spot = spots.List l; clips = min layers 255 }
 
--- no unit stands under two places
-abbrev pub Apart : {P : Type 0} → (P → Option Stretch) → Type 0
-Apart stretch = (p q : _) (t u : Stretch) (i : ℕ) → stretch p ≡ Some t → stretch q ≡ Some u → t.list ≡ u.list → t.from ≤ i → i < t.from + t.count → u.from ≤ i → i < u.from + u.count → p ≡ q
-
 -- the stretch at this place begins at index i of list l, or ends there
 abbrev pub Begins : {P : Type 0} → (P → Option Stretch) → P → ℕ → ℕ → Type 0
 Begins stretch p l i = (n : ℕ) × (stretch p ≡ Some (record { list = l; from = i; count = n }))

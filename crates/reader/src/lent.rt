@@ -19,7 +19,7 @@ impl<R: Reader> Reader for &R {
 
     ghost settled = { λ s. R.Reader.settled s.now };
 
-    ghost apart = { λ s. R.Reader.apart s.now };
+    ghost faithful = { λ s. R.Reader.faithful s.now };
 
     fn first(&self, list: u32) -> Result<Option<R::Place>, Fault> {
         (**self).first(list)

@@ -2,7 +2,7 @@ ghost use Rattle.std.specs.Prelude.{◌≡◌, ℕ, Some, Option};
 ghost use Rattle.block.specs.Units.{Meaning, Lawful, Stretch, RunOf, Worth};
 ghost use Rattle.block.specs.declared.kind.Kind.{Kind};
 ghost use Rattle.block.specs.declared.slot.Slot.{Slot};
-ghost use Rattle.reader.specs.Answers.{Apart, First, Right, Left, Described, Found, Nearest, Counted, Held, Reads, Valued, faces};
+ghost use Rattle.reader.specs.Answers.{First, Right, Left, Described, Found, Nearest, Counted, Held, Reads, Valued, faces};
 
 use block::fault::Fault;
 use block::ids::Id;
@@ -44,8 +44,8 @@ pub trait Reader {
     // A place covers a run.
     ghost settled: { (s : Self) (p : Self.Place) (t : Stretch) → stretch s p ≡ Some t → RunOf (meaning s) t };
 
-    // No unit stands under two places.
-    ghost apart: { (s : Self) → Apart (stretch s) };
+    // Two places of one run are one place.
+    ghost faithful: { (s : Self) (p q : Self.Place) (t u : Stretch) → stretch s p ≡ Some t → stretch s q ≡ Some u → t.list ≡ u.list → t.from ≡ u.from → p ≡ q };
 
     // The leftmost run of a list.
     fn first(&self, list: u32) -> Result<Option<Self::Place>, Fault>

@@ -1,11 +1,10 @@
 -- The sample document is lawful, and its places are its runs.
-use Rattle.std.specs.Prelude.{◌≡◌, ℕ, zero, suc, ◌+◌, ◌-◌, ◌^◌, ◌<◌, ◌≤◌, cond, [], length, Some, ◌==◌, refl}
+use Rattle.std.specs.Prelude.{◌≡◌, ℕ, zero, suc, ◌+◌, ◌^◌, ◌<◌, ◌≤◌, cond, [], length, Some, ◌==◌, refl}
 use Rattle.std.proofs.Common.{sym, ap, subst, ◌∙◌, arith}
 use Rattle.std.proofs.lemmas.Bool.{cond_both}
 use Rattle.block.specs.declared.ids.Id.{Id}
 use Rattle.block.specs.declared.kind.Kind.TheVariants as kinds
 use Rattle.block.specs.Units.{Lawful, Stretch, RunOf, UnitOf, unit_at, nested, seen}
-use Rattle.reader.specs.Answers.{Apart}
 use Rattle.sample.specs.declared.sample.Run.{Run}
 use Rattle.sample.specs.declared.sample.Run.TheVariants.{Ab, Bold, Xy, Nest, C, Inner}
 use Rattle.sample.specs.Sample.{sample, units_of, holder_of, known_of, span}
@@ -103,10 +102,6 @@ by_two P a b zero h = a
 by_two P a b (suc zero) h = b
 by_two P a b (suc (suc k)) h = absurd (omega arith)
 
-by_one : (P : ℕ → Type 0) → P 0 → (k : ℕ) → k < 1 → P k
-by_one P a zero h = a
-by_one P a (suc k) h = absurd (omega arith)
-
 pub run_of : (p : Run) → RunOf sample (span p)
 run_of Ab =
     record {
@@ -136,7 +131,7 @@ run_of Inner = single 1 0 (omega arith)
 pub sample_settled : (p : Run) (t : Stretch) → Some (span p) ≡ Some t → RunOf sample t
 sample_settled p t e = let q : span p ≡ t = cc in subst (RunOf sample) q (run_of p)
 
--- the run at an index of a list
+-- the run that begins at an index of a list
 root_run : ℕ → Run
 root_run zero = Ab
 root_run (suc zero) = Ab
@@ -146,29 +141,23 @@ root_run (suc (suc (suc (suc zero)))) = Xy
 root_run (suc (suc (suc (suc (suc zero))))) = Nest
 root_run (suc (suc (suc (suc (suc (suc i)))))) = C
 
-run_there : ℕ → ℕ → Run
-run_there zero i = root_run i
-run_there (suc l) i = Inner
+begun : ℕ → ℕ → Run
+begun zero i = root_run i
+begun (suc l) i = Inner
 
-covers : (p : Run) (k : ℕ) → k < (span p).count → run_there (span p).list ((span p).from + k) ≡ p
-unfolding run_there root_run
-covers Ab = by_two _ refl refl
-covers Bold = by_one _ refl
-covers Xy = by_two _ refl refl
-covers Nest = by_one _ refl
-covers C = by_one _ refl
-covers Inner = by_one _ refl
+begins : (p : Run) → begun (span p).list (span p).from ≡ p
+unfolding begun root_run
+begins Ab = refl
+begins Bold = refl
+begins Xy = refl
+begins Nest = refl
+begins C = refl
+begins Inner = refl
 
-covered : (p : Run) (i : ℕ) → (span p).from ≤ i → i < (span p).from + (span p).count → run_there (span p).list i ≡ p
-covered p i lo hi = let e : (span p).from + (i - (span p).from) ≡ i = omega arith in subst (λ n. run_there (span p).list n ≡ p) e (covers p (i - (span p).from) (omega arith))
-
-pub sample_apart : Apart (λ p. Some (span p))
-sample_apart p q t u i e f g tl th ul uh =
+pub sample_faithful : (p q : Run) (t u : Stretch) → Some (span p) ≡ Some t → Some (span q) ≡ Some u → t.list ≡ u.list → t.from ≡ u.from → p ≡ q
+sample_faithful p q t u e f g h =
     let a : span p ≡ t = cc in
     let b : span q ≡ u = cc in
     let l : (span p).list ≡ (span q).list = ap (λ (x : Stretch). x.list) a ∙ g ∙ sym (ap (λ (x : Stretch). x.list) b) in
-    let pf = ap (λ (x : Stretch). x.from) a in
-    let pc = ap (λ (x : Stretch). x.count) a in
-    let qf = ap (λ (x : Stretch). x.from) b in
-    let qc = ap (λ (x : Stretch). x.count) b in
-    sym (covered p i (omega (arith, pf)) (omega (arith, pf, pc))) ∙ ap (λ (x : ℕ). run_there x i) l ∙ covered q i (omega (arith, qf)) (omega (arith, qf, qc))
+    let i : (span p).from ≡ (span q).from = ap (λ (x : Stretch). x.from) a ∙ h ∙ sym (ap (λ (x : Stretch). x.from) b) in
+    sym (begins p) ∙ ap (λ (x : ℕ). begun x (span p).from) l ∙ ap (begun (span q).list) i ∙ begins q

@@ -1,7 +1,7 @@
 ghost use Rattle.std.specs.Prelude.{◌≡◌, ◌<◌, ◌≤◌, Some};
 ghost use Rattle.reader.specs.Answers.{no_list, faces};
 ghost use Rattle.sample.specs.Sample.{sample as meant, span, shows, width, slot_for, part_of, told, Stands};
-ghost use Rattle.sample.specs.SampleFacts.{sample_lawful, sample_settled, sample_apart};
+ghost use Rattle.sample.specs.SampleFacts.{sample_lawful, sample_settled, sample_faithful};
 
 use block::fault::{Code, Fault, Part, Spot};
 use block::ids::Id;
@@ -152,7 +152,7 @@ impl Reader for Sample {
 
     ghost settled = { λ _. sample_settled };
 
-    ghost apart = { λ _. sample_apart };
+    ghost faithful = { λ _. sample_faithful };
 
     fn first(&self, list: u32) -> Result<Option<Run>, Fault> {
         match list {

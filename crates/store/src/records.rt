@@ -42,9 +42,7 @@ pub struct EntryRecord {
     pub len: u32,
 }
 
-// The records in use, and the bytes of the content. The order is a hint for look-ups: the numbers of
-// the runs by client and clock, as far as someone has put them in order. Whatever it holds, it is no
-// part of what the view means, and answers do not depend on it.
+// The records in use, and the bytes of the content.
 #[derive(Clone, Copy)]
 pub struct View<'a> {
     pub runs: &'a [RunRecord],
@@ -52,7 +50,6 @@ pub struct View<'a> {
     pub clients: &'a [ClientRecord],
     pub entries: &'a [EntryRecord],
     pub bytes: &'a [u8],
-    pub order: &'a [u32],
 }
 
 const NO_RUN: RunRecord = RunRecord {

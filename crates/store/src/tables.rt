@@ -72,7 +72,6 @@ impl<'a> Tables<'a> {
             clients: &self.clients[..self.client_count as usize],
             entries: &self.entries[..self.entry_count as usize],
             bytes: &self.bytes[..self.byte_count as usize],
-            order: &[],
         })
     }
 }

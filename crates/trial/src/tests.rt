@@ -1,21 +1,12 @@
-use crate::records::dead;
-use crate::records::linked;
-use crate::records::root;
-use crate::records::run;
-use block::fault::Code;
-use block::fault::Fault;
-use block::fault::Spot;
+use crate::records::{dead, linked, root, run};
+use block::fault::{Code, Fault, Spot};
 use block::ids::Id;
 use block::kind::Kind;
 use block::slot::Slot;
 use document::document::Document;
 use document::examine::verdict;
 use reader::reader::Reader;
-use store::records::ClientRecord;
-use store::records::EntryRecord;
-use store::records::ListRecord;
-use store::records::RunRecord;
-use store::records::View;
+use store::records::{ClientRecord, EntryRecord, ListRecord, RunRecord, View};
 use store::refusal::fault_at;
 
 // "ab" of client 5, "XY" of client 9, dead, and "c" of client 5.
@@ -75,12 +66,18 @@ fn the_small_document_is_accepted(rt: HostRuntime) {
 #[test]
 fn damage_is_told_by_record(rt: HostRuntime) {
     let runs = three_runs();
-    assert_eq!(rt; small(&runs, root(Some(3), 3)),
-        Some(fault_at(Code::OutOfRange, Spot::ListRecord(0))));
-    assert_eq!(rt; small(&runs, root(Some(0), 2)),
-        Some(fault_at(Code::Disagreement, Spot::ListRecord(0))));
-    assert_eq!(rt; small(&runs, root(None, 3)),
-        Some(fault_at(Code::Disagreement, Spot::RunRecord(0))));
+    assert_eq!(rt;
+        small(&runs, root(Some(3), 3)),
+        Some(fault_at(Code::OutOfRange, Spot::ListRecord(0)))
+    );
+    assert_eq!(rt;
+        small(&runs, root(Some(0), 2)),
+        Some(fault_at(Code::Disagreement, Spot::ListRecord(0)))
+    );
+    assert_eq!(rt;
+        small(&runs, root(None, 3)),
+        Some(fault_at(Code::Disagreement, Spot::RunRecord(0)))
+    );
     let [a, b, c] = runs;
     let gap = RunRecord {
         id: Id {
@@ -89,14 +86,20 @@ fn damage_is_told_by_record(rt: HostRuntime) {
         },
         ..c
     };
-    assert_eq!(rt; small(&[a, b, gap], root(Some(0), 3)),
-        Some(fault_at(Code::Overlap, Spot::RunRecord(2))));
+    assert_eq!(rt;
+        small(&[a, b, gap], root(Some(0), 3)),
+        Some(fault_at(Code::Overlap, Spot::RunRecord(2)))
+    );
     let short = RunRecord { len: 1, ..b };
-    assert_eq!(rt; small(&[a, short, c], root(Some(0), 3)),
-        Some(fault_at(Code::Disagreement, Spot::ClientRecord(1))));
+    assert_eq!(rt;
+        small(&[a, short, c], root(Some(0), 3)),
+        Some(fault_at(Code::Disagreement, Spot::ClientRecord(1)))
+    );
     let long = RunRecord { entry: 3, ..c };
-    assert_eq!(rt; small(&[a, b, long], root(Some(0), 3)),
-        Some(fault_at(Code::OutOfRange, Spot::RunRecord(2))));
+    assert_eq!(rt;
+        small(&[a, b, long], root(Some(0), 3)),
+        Some(fault_at(Code::OutOfRange, Spot::RunRecord(2)))
+    );
 }
 
 // The slot of a unit, and how many values its run has from there on, up to three.
@@ -106,7 +109,6 @@ fn value_at<'a>(
     clients: &'a [ClientRecord],
     entries: &'a [EntryRecord],
     bytes: &'a [u8],
-    order: &[],
     place: u32,
     offset: u32,
 ) -> Option<(usize, Slot)> {

@@ -1,9 +1,10 @@
-use Rattle.std.proofs.Common.{◌≡◌, ℕ, List, length, sym, refl, ap, ◌∙◌, subst}
+use Rattle.std.proofs.Common.{List, length, sym, ap, ◌∙◌, subst}
 use Rattle.store.specs.declared.records.ListRecord.{ListRecord}
 use Rattle.document.specs.Meaning.{meaning_of}
-use Rattle.edit.specs.Contents.{Contents, all_of, used_of, fault_in}
-use Rattle.edit.specs.Creation.{Blank, created, unless_fault, root_fault}
+use Rattle.edit.specs.Creation.{Blank, created, unless_fault}
+use Rattle.edit.specs.Edits.{Contents, all_of}
 use Rattle.edit.proofs.Blanks.{has_room, created_fault, created_blank}
+use Rattle.edit.proofs.Uses.{fault_in, used_of}
 use Rattle.edit.proofs.create.create.Goals as goal
 
 pub returns : goal.returns

@@ -1,5 +1,5 @@
 use Rattle.std.proofs.Common.{arith}
-use Rattle.edit.specs.Contents.{all_of}
+use Rattle.edit.specs.Edits.{all_of}
 use Rattle.edit.proofs.Uses.{can_lower}
 use Rattle.edit.proofs.tombstone.kill.Goals as goal
 

@@ -12,8 +12,8 @@ overflow_add-self g c =
 pub returns-in-None : goal.returns-in-None
 returns-in-None g c =
     let reader = c.args.self.now.reader in record {
-      taken = λ ws h. ends_by_clock (g.R.Reader.meaning reader) (g.R.Reader.stretch reader) (g.R.Reader.lawful reader) (g.R.Reader.settled reader) c.args.self.now.client c.args.self.now.clock c.in-None.ensures _ _ ws h;
-      given = c.in-None.ensures;
+      taken = λ ws h. ends_by_clock (g.R.Reader.meaning reader) (g.R.Reader.stretch reader) (g.R.Reader.lawful reader) (g.R.Reader.settled reader) c.args.self.now.client c.args.self.now.clock c.in-None.ensures _ _ ws h.1;
+      given = λ apart. (apart, c.in-None.ensures);
       fit = tt;
       nearer = tt;
     }
@@ -26,8 +26,8 @@ returns-in-Some-describe g c =
     let near = c.in-Some.ensures in
     let desc = c.in-Some-describe.ensures in record {
       taken = λ ws h.
-          first_by_clock (g.R.Reader.meaning reader) (g.R.Reader.stretch reader) (g.R.Reader.lawful reader) (g.R.Reader.settled reader) c.args.self.now.client c.args.self.now.clock place about near desc _ _ _ (g.R.Reader.apart reader) (λ vs a. a) ws h;
-      given = λ ws h. (near, desc, h);
+          first_by_clock (g.R.Reader.meaning reader) (g.R.Reader.stretch reader) (g.R.Reader.lawful reader) (g.R.Reader.settled reader) c.args.self.now.client c.args.self.now.clock place about near desc _ _ _ h.0 (λ vs a. (h.0, a)) ws h.1;
+      given = (λ x. x, λ ws h. (h.0, (near, desc, h.1)));
       fit = run_fits (g.R.Reader.meaning reader) (g.R.Reader.stretch reader) (g.R.Reader.settled reader) (g.R.Reader.lawful reader) place about desc;
       nearer = clock_rises (g.R.Reader.meaning reader) (g.R.Reader.stretch reader) (g.R.Reader.lawful reader) (g.R.Reader.settled reader) c.args.self.now.client c.args.self.now.clock place about near desc;
     }

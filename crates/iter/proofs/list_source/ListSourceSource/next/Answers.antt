@@ -16,9 +16,9 @@ returns-in-Some-describe g c =
     let right = c.right-self.ensures.1 t e in
     let is = c.in-Some.is in record {
       taken = λ ws h.
-          first_run m st settled (g.R.Reader.apart c.args.self.now.reader) p t d e q c.right-self.result right _ _ _ (λ vs a. a) ws
+          first_run m st settled (g.R.Reader.faithful c.args.self.now.reader) p t d e q c.right-self.result right _ _ _ (λ vs a. a) ws
           (subst (λ (o : Option Stretch). FromStretch m st o ws) e (subst (λ (o : Option _). FromHere m st o ws) is h));
-      given = λ ws h. subst (λ (o : Option _). FromHere m st o (record { place = p; about = d } ∷ ws)) (sym is) (first_given m st settled p t d e q desc c.right-self.result right ws h);
+      given = (λ x. x, λ ws h. subst (λ (o : Option _). FromHere m st o (record { place = p; about = d } ∷ ws)) (sym is) (first_given m st settled p t d e q desc c.right-self.result right ws h));
       fit = run_fits m st settled (g.R.Reader.lawful c.args.self.now.reader) p d desc;
       nearer = subst (λ (o : Option _). span_left m st c.right-self.result < span_left m st o) (sym is) (onward_nearer m st settled t p c.right-self.result e right);
     }
