@@ -1,8 +1,9 @@
-ghost use Rattle.std.specs.Prelude.{◌≡◌, ◌<◌, ◌≤◌, MatchResult};
+ghost use Rattle.std.specs.Prelude.{◌≡◌, ◌<◌, ◌≤◌, MatchResult, ⊤};
 ghost use Rattle.block.specs.Units.{seen};
+ghost use Rattle.block.specs.Values.{face};
 ghost use Rattle.reader.specs.Answers.{Counted, faces, no_list};
 ghost use Rattle.block_iter.specs.Cursors.{Sound, Same};
-ghost use Rattle.array.specs.Arrays.{element, SlotOf, Yields};
+ghost use Rattle.array.specs.Arrays.{element, values_left, SlotOf, Yields};
 
 use block::fault::Fault;
 use block::slot::{Slot, Value};
@@ -13,19 +14,9 @@ use reader::reader::Reader;
 fn slot_at<R: Reader>(reader: &R, list: u32, index: u32) -> Option<Slot>
     ensures { SlotOf (R.Reader.shown reader.now) (element (seen ((R.Reader.meaning reader.now).units list)) index) result }
 {
-    match BlockIter::open(reader, list) {
-        Err(_) => None,
-        Ok(opened) => {
-            let mut walker = opened;
-            let skipped = walker.try_forward(index);
-            let next = walker.read_value();
-            let _ = walker.close();
-            match skipped {
-                Err(_) => None,
-                Ok(()) => next,
-            }
-        }
-    }
+    let mut cursor = BlockIter::open(reader, list).ok()?;
+    cursor.try_forward(index).ok()?;
+    cursor.read_value()
 }
 
 // A list of a reader, as an array of the values of its visible units.
@@ -53,44 +44,54 @@ impl<'r, R: Reader> ArrayRef<'r, R> {
     pub fn get(&self, index: u32) -> Option<Value<'r>>
         ensures { faces result ≡ element (seen ((R.Reader.meaning self.now.reader.now).units self.now.list)) index }
     {
-        match slot_at(self.reader, self.list, index) {
-            None => None,
-            Some(slot) => self.reader.show(slot),
-        }
+        let slot = slot_at(self.reader, self.list, index)?;
+        self.reader.show(slot)
     }
 
     // The values from the first on; refused where the list is not there.
     pub fn iter(&self) -> Result<ArrayIter<'r, R>, Fault>
         ensures { MatchResult result (λ i. (self.now.list < (R.Reader.meaning self.now.reader.now).lists) × (i.inner.reader.now ≡ self.now.reader.now) × (i.inner.list ≡ self.now.list) × (i.inner.index ≡ 0) × Sound (λ s. R.Reader.meaning s.now) (λ s. R.Reader.stretch s.now) i.inner) (λ e. ((R.Reader.meaning self.now.reader.now).lists ≤ self.now.list) × (e ≡ no_list (R.Reader.layers self.now.reader.now) self.now.list)) }
     {
-        match BlockIter::open(self.reader, self.list) {
-            Err((_, e)) => Err(e),
-            Ok(inner) => Ok(ArrayIter { inner }),
-        }
+        let inner = BlockIter::open(self.reader, self.list).map_err(|(_, fault)| fault)?;
+        Ok(ArrayIter { inner })
     }
 }
 
 // Steps through the values of an array.
+#[derive(Drop)]
 pub struct ArrayIter<'r, R: Reader> {
     inner: BlockIter<&'r R>,
 }
 
-impl<'r, R: Reader> ArrayIter<'r, R> {
+// The elements that are left, from the cursor's index on.
+impl<'r, R: Reader> Iterator for ArrayIter<'r, R> {
+    ghost use Rattle.std.specs.Iterator.{YieldsFirstBy, MakesProgress, item_count};
+
+    type Item = Value<'r>;
+
+    ghost next_gives = { YieldsFirstBy face (values_left R.Reader.meaning) };
+
+    ghost remaining = { item_count (values_left R.Reader.meaning) };
+
     // The next value; none at the end.
-    pub fn next(&mut self) -> Option<Value<'r>>
+    fn next(&mut self) -> Option<Value<'r>>
         ensures same { Same self.old.inner self.new.inner }
-        ensures next { Sound (λ s. R.Reader.meaning s.now) (λ s. R.Reader.stretch s.now) self.old.inner → Yields (λ s. R.Reader.meaning s.now) (λ s. R.Reader.stretch s.now) self.old.inner result self.new.inner }
+        ensures next { Yields (λ s. R.Reader.meaning s.now) (λ s. R.Reader.stretch s.now) self.old.inner result self.new.inner }
+        ensures steps { YieldsFirstBy face (values_left R.Reader.meaning) self.old result self.new }
+        ensures goes { MakesProgress (λ _. ⊤) (item_count (values_left R.Reader.meaning)) self.old result self.new }
     {
         let reader: &'r R = *self.inner.reader();
-        match self.inner.read_value() {
-            None => None,
-            Some(slot) => reader.show(slot),
-        }
+        let slot = self.inner.read_value()?;
+        reader.show(slot)
     }
 
-    // Ends the steps.
-    pub fn close(self) {
-        let ArrayIter { inner } = self;
-        let _ = inner.close();
+    fn size_hint(&self) -> (usize, Option<usize>) {
+        let left = self.inner.len().saturating_sub(self.inner.index()) as usize;
+        (left, Some(left))
     }
+}
+
+impl<'r, R: Reader> ArrayIter<'r, R> {
+    // Ends the steps.
+    pub fn close(self) {}
 }

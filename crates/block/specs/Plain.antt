@@ -1,9 +1,7 @@
 -- The plain cursor: it is fed the visible units of a list and a list of calls, and nothing else.
-use Rattle.std.specs.Prelude.{ℕ, ◌+◌, cond, List, [], ◌∷◌, ◌++◌, length, take, drop, fold, nat_lt}
+use Rattle.std.specs.Prelude.{ℕ, ◌+◌, cond, List, [], ◌∷◌, ◌++◌, length, take, drop, fold, Ok, Err, Result, nat_lt}
 use Rattle.block.specs.declared.call.Call.{Call}
 use Rattle.block.specs.declared.call.Call.TheVariants.{Skip, Read}
-use Rattle.block.specs.declared.call.Outcome.{Outcome}
-use Rattle.block.specs.declared.call.Outcome.TheVariants.{Done, Refused}
 use Rattle.block.specs.declared.fault.Fault.{Fault}
 use Rattle.block.specs.declared.fault.Code.TheVariants.{BeyondLength}
 use Rattle.block.specs.declared.fault.Part.TheVariants.{Cursor}
@@ -12,7 +10,7 @@ use Rattle.block.specs.Units.{UnitOf}
 
 -- what it has answered, its index, the units that it has passed, and those that its reads have shown
 pub record Plain : Type 0 where
-  pub outcomes : List Outcome
+  pub outcomes : List (Result (Unit {0}) Fault)
   pub index : ℕ
   pub passed : List UnitOf
   pub shown : List UnitOf
@@ -44,10 +42,10 @@ abbrev pub next_units : List UnitOf → ℕ → ℕ → List UnitOf
 next_units vs i n = take n (drop i vs)
 
 abbrev pub refuse : ℕ → Plain → Plain
-refuse l s = record { outcomes = s.outcomes ++ (Refused (too_far l) ∷ []); index = s.index; passed = s.passed; shown = s.shown }
+refuse l s = record { outcomes = s.outcomes ++ (Err (too_far l) ∷ []); index = s.index; passed = s.passed; shown = s.shown }
 
 abbrev pub accept : List UnitOf → Plain → Call → Plain
-accept vs s c = record { outcomes = s.outcomes ++ (Done ∷ []); index = s.index + asked c; passed = s.passed ++ next_units vs s.index (asked c); shown = s.shown ++ shown_by c (next_units vs s.index (asked c)) }
+accept vs s c = record { outcomes = s.outcomes ++ (Ok tt ∷ []); index = s.index + asked c; passed = s.passed ++ next_units vs s.index (asked c); shown = s.shown ++ shown_by c (next_units vs s.index (asked c)) }
 
 -- one call: refused if it goes beyond the visible units, and then nothing changes
 abbrev pub plain_call : ℕ → List UnitOf → Plain → Call → Plain

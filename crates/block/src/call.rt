@@ -1,8 +1,6 @@
 ghost use Rattle.std.specs.Prelude.{◌≡◌};
 ghost use Rattle.block.specs.Plain.{asked, filled};
 
-use crate::fault::Fault;
-
 // One call of a cursor: a skip of so many visible units, or a read of them.
 #[derive(Clone, Copy, PartialEq, Eq, Debug)]
 pub enum Call {
@@ -30,11 +28,4 @@ impl Call {
             Call::Read(n) => n,
         }
     }
-}
-
-// What a cursor answers to a call.
-#[derive(Clone, Copy, PartialEq, Eq, Debug)]
-pub enum Outcome {
-    Done,
-    Refused(Fault),
 }

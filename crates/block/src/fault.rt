@@ -1,8 +1,11 @@
-ghost use Rattle.std.specs.Prelude.{◌≡◌, MatchOption, ◌≢◌};
+ghost use Rattle.std.specs.Prelude.{◌≡◌, Some, MatchResult, ◌≢◌};
+ghost use Rattle.std.specs.Fmt.{padded};
 ghost use Rattle.block.specs.declared.fault.Code.{Code};
 ghost use Rattle.block.specs.Faults.{code_number, code_words, part_name};
 
 use crate::ids::Id;
+use crate::number::UnknownNumber;
+use std::error::Error;
 use std::fmt;
 
 // What was wrong.
@@ -23,46 +26,21 @@ pub enum Code {
 }
 
 impl Code {
-    // The fault's number, by which a planner tells faults apart.
-    pub fn number(self) -> u8
-        ensures { result ≡ code_number self }
-    {
-        match self {
-            Code::OutOfRange => 1,
-            Code::Overlap => 2,
-            Code::Disagreement => 3,
-            Code::Content => 4,
-            Code::NoSuchList => 5,
-            Code::BeyondLength => 6,
-            Code::NotKnown => 7,
-            Code::NotListed => 8,
-            Code::TooManyRedone => 9,
-            Code::LimitPassed => 10,
-            Code::Misplaced => 11,
-            Code::Backwards => 12,
-        }
-    }
-
-    // The code with this number; none where no fault has it.
-    pub fn from_number(number: u8) -> Option<Code>
-        ensures { MatchOption result ((c : Code) → code_number c ≢ number) (λ c. code_number c ≡ number) }
-    {
-        match number {
-            1 => Some(Code::OutOfRange),
-            2 => Some(Code::Overlap),
-            3 => Some(Code::Disagreement),
-            4 => Some(Code::Content),
-            5 => Some(Code::NoSuchList),
-            6 => Some(Code::BeyondLength),
-            7 => Some(Code::NotKnown),
-            8 => Some(Code::NotListed),
-            9 => Some(Code::TooManyRedone),
-            10 => Some(Code::LimitPassed),
-            11 => Some(Code::Misplaced),
-            12 => Some(Code::Backwards),
-            _ => None,
-        }
-    }
+    // All codes, in the order of their numbers.
+    pub const ALL: [Code; 12] = [
+        Code::OutOfRange,
+        Code::Overlap,
+        Code::Disagreement,
+        Code::Content,
+        Code::NoSuchList,
+        Code::BeyondLength,
+        Code::NotKnown,
+        Code::NotListed,
+        Code::TooManyRedone,
+        Code::LimitPassed,
+        Code::Misplaced,
+        Code::Backwards,
+    ];
 
     // What the fault means, in words.
     pub fn words(self) -> &'static str
@@ -82,6 +60,63 @@ impl Code {
             Code::Misplaced => "not allowed at this unit",
             Code::Backwards => "the range ends before it starts",
         }
+    }
+}
+
+// The fault's number, by which a planner tells faults apart.
+impl From<Code> for u8 {
+    ghost from_gives = { λ code number. number ≡ code_number code };
+
+    fn from(code: Code) -> u8 {
+        match code {
+            Code::OutOfRange => 1,
+            Code::Overlap => 2,
+            Code::Disagreement => 3,
+            Code::Content => 4,
+            Code::NoSuchList => 5,
+            Code::BeyondLength => 6,
+            Code::NotKnown => 7,
+            Code::NotListed => 8,
+            Code::TooManyRedone => 9,
+            Code::LimitPassed => 10,
+            Code::Misplaced => 11,
+            Code::Backwards => 12,
+        }
+    }
+}
+
+// The code with this number; refused where no fault has it.
+impl TryFrom<u8> for Code {
+    type Error = UnknownNumber;
+
+    ghost try_from_gives = { λ number r. MatchResult r (λ code. code_number code ≡ number) (λ e. (e.number ≡ number) × ((code : Code) → code_number code ≢ number)) };
+
+    fn try_from(number: u8) -> Result<Code, UnknownNumber> {
+        match number {
+            1 => Ok(Code::OutOfRange),
+            2 => Ok(Code::Overlap),
+            3 => Ok(Code::Disagreement),
+            4 => Ok(Code::Content),
+            5 => Ok(Code::NoSuchList),
+            6 => Ok(Code::BeyondLength),
+            7 => Ok(Code::NotKnown),
+            8 => Ok(Code::NotListed),
+            9 => Ok(Code::TooManyRedone),
+            10 => Ok(Code::LimitPassed),
+            11 => Ok(Code::Misplaced),
+            12 => Ok(Code::Backwards),
+            _ => Err(UnknownNumber { number }),
+        }
+    }
+}
+
+impl fmt::Display for Code {
+    ghost output = { λ code. Some (code_words code) };
+
+    ghost styled_output = { λ code spec. Some (padded spec (code_words code)) };
+
+    fn fmt<W: fmt::Write>(&self, f: &mut fmt::Formatter<W>) -> fmt::Result {
+        f.pad(self.words())
     }
 }
 
@@ -111,6 +146,16 @@ impl Part {
     }
 }
 
+impl fmt::Display for Part {
+    ghost output = { λ part. Some (part_name part) };
+
+    ghost styled_output = { λ part spec. Some (padded spec (part_name part)) };
+
+    fn fmt<W: fmt::Write>(&self, f: &mut fmt::Formatter<W>) -> fmt::Result {
+        f.pad(self.name())
+    }
+}
+
 // Where a fault lies: nowhere in particular, in a record of one of the tables, at a byte of the
 // content, at a list, or at a unit.
 #[derive(Clone, Copy, PartialEq, Eq, Debug)]
@@ -135,6 +180,22 @@ pub struct Fault {
     pub clips: u8,
 }
 
+impl Fault {
+    // A fault that has passed no clip.
+    pub fn new(part: Part, code: Code, spot: Spot) -> Fault
+        ensures { result ≡ record { code = code; part = part; spot = spot; clips = 0 } }
+    {
+        Fault {
+            code,
+            part,
+            spot,
+            clips: 0,
+        }
+    }
+}
+
+impl Error for Fault {}
+
 impl fmt::Display for Spot {
     fn fmt<W: fmt::Write>(&self, f: &mut fmt::Formatter<W>) -> fmt::Result {
         match *self {
@@ -145,11 +206,7 @@ impl fmt::Display for Spot {
             Spot::EntryRecord(i) => write!(f, "entry record {i}"),
             Spot::Byte(i) => write!(f, "byte {i}"),
             Spot::List(l) => write!(f, "list {l}"),
-            Spot::Unit(id) => {
-                let client = id.client;
-                let clock = id.clock;
-                write!(f, "unit {client}:{clock}")
-            }
+            Spot::Unit(id) => write!(f, "unit {id}"),
         }
     }
 }
@@ -157,12 +214,15 @@ impl fmt::Display for Spot {
 // One line: `fault 6: beyond the length of the list (cursor, list 0)`.
 impl fmt::Display for Fault {
     fn fmt<W: fmt::Write>(&self, f: &mut fmt::Formatter<W>) -> fmt::Result {
-        let number = self.code.number();
-        let words = self.code.words();
-        let part = self.part.name();
-        let spot = self.spot;
-        write!(f, "fault {number}: {words} ({part}, {spot}")?;
-        match self.clips {
+        let Fault {
+            code,
+            part,
+            spot,
+            clips,
+        } = *self;
+        let number = u8::from(code);
+        write!(f, "fault {number}: {code} ({part}, {spot}")?;
+        match clips {
             0 => write!(f, ")"),
             1 => write!(f, ", under 1 clip)"),
             n => write!(f, ", under {n} clips)"),

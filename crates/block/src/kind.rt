@@ -1,6 +1,10 @@
-ghost use Rattle.std.specs.Prelude.{◌≡◌, MatchOption, ◌≢◌};
+ghost use Rattle.std.specs.Prelude.{◌≡◌, Some, MatchResult, ◌≢◌};
+ghost use Rattle.std.specs.Fmt.{padded};
 ghost use Rattle.block.specs.Kinds.{number_of, is_counted, name_of};
 ghost use Rattle.block.specs.declared.kind.Kind.{Kind};
+
+use crate::number::UnknownNumber;
+use std::fmt;
 
 // What a run's units are.
 #[derive(Clone, Copy, PartialEq, Eq, Debug)]
@@ -19,44 +23,20 @@ pub enum Kind {
 }
 
 impl Kind {
-    // The number of the kind in a store.
-    pub fn number(self) -> u8
-        ensures { result ≡ number_of self }
-    {
-        match self {
-            Kind::Gc => 0,
-            Kind::Deleted => 1,
-            Kind::Json => 2,
-            Kind::Binary => 3,
-            Kind::Text => 4,
-            Kind::Embed => 5,
-            Kind::Format => 6,
-            Kind::List => 7,
-            Kind::Any => 8,
-            Kind::Doc => 9,
-            Kind::Skip => 10,
-        }
-    }
-
-    // The kind with this number; none where no kind has it.
-    pub fn from_number(number: u8) -> Option<Kind>
-        ensures { MatchOption result ((k : Kind) → number_of k ≢ number) (λ k. number_of k ≡ number) }
-    {
-        match number {
-            0 => Some(Kind::Gc),
-            1 => Some(Kind::Deleted),
-            2 => Some(Kind::Json),
-            3 => Some(Kind::Binary),
-            4 => Some(Kind::Text),
-            5 => Some(Kind::Embed),
-            6 => Some(Kind::Format),
-            7 => Some(Kind::List),
-            8 => Some(Kind::Any),
-            9 => Some(Kind::Doc),
-            10 => Some(Kind::Skip),
-            _ => None,
-        }
-    }
+    // All kinds, in the order of their numbers.
+    pub const ALL: [Kind; 11] = [
+        Kind::Gc,
+        Kind::Deleted,
+        Kind::Json,
+        Kind::Binary,
+        Kind::Text,
+        Kind::Embed,
+        Kind::Format,
+        Kind::List,
+        Kind::Any,
+        Kind::Doc,
+        Kind::Skip,
+    ];
 
     // Whether live units of this kind count towards the length of their list.
     pub fn is_countable(self) -> bool
@@ -91,5 +71,60 @@ impl Kind {
             Kind::Doc => "document",
             Kind::Skip => "skip",
         }
+    }
+}
+
+// The number of the kind in a store.
+impl From<Kind> for u8 {
+    ghost from_gives = { λ kind number. number ≡ number_of kind };
+
+    fn from(kind: Kind) -> u8 {
+        match kind {
+            Kind::Gc => 0,
+            Kind::Deleted => 1,
+            Kind::Json => 2,
+            Kind::Binary => 3,
+            Kind::Text => 4,
+            Kind::Embed => 5,
+            Kind::Format => 6,
+            Kind::List => 7,
+            Kind::Any => 8,
+            Kind::Doc => 9,
+            Kind::Skip => 10,
+        }
+    }
+}
+
+// The kind with this number; refused where no kind has it.
+impl TryFrom<u8> for Kind {
+    type Error = UnknownNumber;
+
+    ghost try_from_gives = { λ number r. MatchResult r (λ kind. number_of kind ≡ number) (λ e. (e.number ≡ number) × ((kind : Kind) → number_of kind ≢ number)) };
+
+    fn try_from(number: u8) -> Result<Kind, UnknownNumber> {
+        match number {
+            0 => Ok(Kind::Gc),
+            1 => Ok(Kind::Deleted),
+            2 => Ok(Kind::Json),
+            3 => Ok(Kind::Binary),
+            4 => Ok(Kind::Text),
+            5 => Ok(Kind::Embed),
+            6 => Ok(Kind::Format),
+            7 => Ok(Kind::List),
+            8 => Ok(Kind::Any),
+            9 => Ok(Kind::Doc),
+            10 => Ok(Kind::Skip),
+            _ => Err(UnknownNumber { number }),
+        }
+    }
+}
+
+impl fmt::Display for Kind {
+    ghost output = { λ kind. Some (name_of kind) };
+
+    ghost styled_output = { λ kind spec. Some (padded spec (name_of kind)) };
+
+    fn fmt<W: fmt::Write>(&self, f: &mut fmt::Formatter<W>) -> fmt::Result {
+        f.pad(self.name())
     }
 }

@@ -4,4 +4,5 @@ pub mod call;
 pub mod fault;
 pub mod ids;
 pub mod kind;
+pub mod number;
 pub mod slot;

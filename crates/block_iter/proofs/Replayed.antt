@@ -1,24 +1,22 @@
 -- Many calls of a cursor, one after the other: b is the cursor at their start, c and d those before and after call i.
-use Rattle.std.proofs.Common.{◌≡◌, ℕ, ◌+◌, ◌-◌, ◌<◌, ◌≤◌, ltb, List, [], ◌∷◌, ◌++◌, length, get_or, take, drop, set, Some, None, Ok, Err, Option, sym, refl, ap, ◌∙◌, subst, inl, inr, arith, take_all, drop-drop, drop-set-lt}
+use Rattle.std.proofs.Common.{◌≡◌, ℕ, ◌+◌, ◌-◌, ◌<◌, ◌≤◌, ltb, List, [], ◌∷◌, ◌++◌, length, get_or, take, drop, set, Some, None, Option, Result, sym, refl, ap, ◌∙◌, subst, inl, inr, arith, take_all, drop-drop, drop-set-lt}
+use Rattle.std.specs.Result.{result_unwrap_or}
 use Rattle.std.proofs.lemmas.List.{take_more_set}
 use Rattle.std.proofs.lemmas.List.Sums.{fold_more}
-use Rattle.std.proofs.lemmas.Bool.{cases_Bool, lt-ltb, ltb-false, cond-true, cond-false}
+use Rattle.std.proofs.lemmas.Bool.{cases_Bool, ltb-false, cond-true, cond-false}
 use Rattle.block.specs.declared.call.Call.{Call}
 use Rattle.block.specs.declared.call.Call.TheVariants.{Skip, Read}
-use Rattle.block.specs.declared.call.Outcome.{Outcome}
+use Rattle.block.specs.declared.fault.Fault.{Fault}
 use Rattle.block.specs.declared.kind.Kind.{Kind}
 use Rattle.block.specs.declared.slot.Slot.{Slot}
-use Rattle.block.specs.Units.{Meaning, Stretch, UnitOf, Worth, seen}
+use Rattle.block.specs.Units.{Meaning, UnitOf, Worth}
 use Rattle.block.specs.Plain.{Plain, plain_call, plain_start, plain_run}
 use Rattle.block.proofs.Plains.{counts_accepted, run_passes, shown_so_far, shows_more}
-use Rattle.block_iter.specs.declared.block_iter.BlockIter.{BlockIter}
 use Rattle.block_iter.specs.Walks.{Shows}
-use Rattle.block_iter.specs.Cursors.{Same, visible_of}
-use Rattle.block_iter.specs.declared.replay.Refusal.{Refusal}
+use Rattle.block_iter.specs.Cursors.{Cursor, Same, visible_of}
 use Rattle.block_iter.specs.declared.replay.Refusal.TheVariants.{FewOutcomes, FewSlots}
-use Rattle.block_iter.specs.declared.replay.Replayed.{Replayed}
-use Rattle.block_iter.specs.Replays.{Matches, Room, Performed, Played, Replays, refusal, too_small}
-use Rattle.block_iter.proofs.Performs.{same_visible}
+use Rattle.block_iter.specs.Replays.{Matches, Room, Performed, Played, outcome_of, too_small}
+use Rattle.block_iter.proofs.Moves.{same_visible}
 
 -- what stays behind an index stays behind a later one
 stays_behind : {X : Type 0} (xs ys : List X) (i k : ℕ) → i ≤ k → drop i xs ≡ drop i ys → drop k xs ≡ drop k ys
@@ -30,12 +28,12 @@ stays_behind xs ys i k h e =
 pub set_behind : {X : Type 0} (xs ys : List X) (i : ℕ) (x : X) → drop i xs ≡ drop i ys → drop (i + 1) (set xs i x) ≡ drop (i + 1) ys
 set_behind xs ys i x e = drop-set-lt (i + 1) xs i x (omega arith) ∙ stays_behind xs ys i (i + 1) (omega arith) e
 
-module _ {R P : Type 0} (meaning : R → Meaning) (stretch : R → P → Option Stretch) (shown : R → Slot → Option (Kind × Worth)) (b c d : BlockIter R P) (same : Same b c) (calls : List Call) (i : ℕ) (none : Call) (h : i < length calls) where
+module _ {R P : Type 0} (meaning : R → Meaning) (shown : R → Slot → Option (Kind × Worth)) (b c d : Cursor R P) (same : Same b c) (calls : List Call) (i : ℕ) (none : Call) (h : i < length calls) where
   next_state : plain_call c.list (visible_of meaning c) (plain_run b.list (visible_of meaning b) (take i calls)) (get_or calls i none) ≡ plain_run b.list (visible_of meaning b) (take (i + 1) calls)
   next_state =
       let s = plain_run b.list (visible_of meaning b) (take i calls) in
       ap (λ (l : ℕ). plain_call l (visible_of meaning c) s (get_or calls i none)) same.list
-      ∙ ap (λ (vs : List UnitOf). plain_call b.list vs s (get_or calls i none)) (same_visible meaning stretch shown b c same)
+      ∙ ap (λ (vs : List UnitOf). plain_call b.list vs s (get_or calls i none)) (same_visible meaning b c same)
       ∙ sym (fold_more (plain_call b.list (visible_of meaning b)) plain_start calls i none h)
 
   module _ (slots : List Slot) (used : ℕ) (match : Matches shown (plain_run b.list (visible_of meaning b) (take i calls)) c slots used) where
@@ -57,27 +55,27 @@ module _ {R P : Type 0} (meaning : R → Meaning) (stretch : R → P → Option 
     pub room_for : length (plain_run b.list (visible_of meaning b) calls).shown ≤ length slots → Room meaning c (get_or calls i none) used (length slots)
     room_for enough = room_at enough (get_or calls i none) refl
 
-    module _ (r : Outcome × ℕ) (after : List Slot) (done : Performed meaning shown c (get_or calls i none) slots used r d after) where
-      pub matches_more : Matches shown (plain_run b.list (visible_of meaning b) (take (i + 1) calls)) d after r.1
-      matches_more = subst (λ (s : Plain). Matches shown s d after r.1) next_state (done (plain_run b.list (visible_of meaning b) (take i calls)) match).1
+    module _ (r : Result ℕ Fault) (after : List Slot) (done : Performed meaning shown c (get_or calls i none) slots used r d after) where
+      pub matches_more : Matches shown (plain_run b.list (visible_of meaning b) (take (i + 1) calls)) d after (used + result_unwrap_or r 0)
+      matches_more = subst (λ (s : Plain). Matches shown s d after (used + result_unwrap_or r 0)) next_state (done (plain_run b.list (visible_of meaning b) (take i calls)) match).1
 
-      pub outcomes_more : (outcomes : List Outcome) → i < length outcomes → take i outcomes ≡ (plain_run b.list (visible_of meaning b) (take i calls)).outcomes → take (i + 1) (set outcomes i r.0) ≡ (plain_run b.list (visible_of meaning b) (take (i + 1) calls)).outcomes
+      pub outcomes_more : (outcomes : List (Result (Unit {0}) Fault)) → i < length outcomes → take i outcomes ≡ (plain_run b.list (visible_of meaning b) (take i calls)).outcomes → take (i + 1) (set outcomes i (outcome_of r)) ≡ (plain_run b.list (visible_of meaning b) (take (i + 1) calls)).outcomes
       outcomes_more outcomes k e =
-          take_more_set outcomes i r.0 k
-          ∙ ap (λ (os : List Outcome). os ++ (r.0 ∷ [])) e
+          take_more_set outcomes i (outcome_of r) k
+          ∙ ap (λ (os : List (Result (Unit {0}) Fault)). os ++ (outcome_of r ∷ [])) e
           ∙ sym (done (plain_run b.list (visible_of meaning b) (take i calls)) match).0
           ∙ ap (λ (s : Plain). s.outcomes) next_state
 
-      pub slots_behind : (start : List Slot) → drop r.1 after ≡ drop r.1 slots → drop used slots ≡ drop used start → drop r.1 after ≡ drop r.1 start
+      pub slots_behind : (start : List Slot) → drop (used + result_unwrap_or r 0) after ≡ drop (used + result_unwrap_or r 0) slots → drop used slots ≡ drop used start → drop (used + result_unwrap_or r 0) after ≡ drop (used + result_unwrap_or r 0) start
       slots_behind start rest e =
           let s = plain_run b.list (visible_of meaning b) (take i calls) in
           let more = shows_more c.list (visible_of meaning c) s (get_or calls i none) in
           let was = match.many in
           let is = (done s match).1.many in
-          rest ∙ stays_behind slots start used r.1 (omega arith) e
+          rest ∙ stays_behind slots start used (used + result_unwrap_or r 0) (omega arith) e
 
 -- all calls are made
-pub all_played : {R P : Type 0} (meaning : R → Meaning) (shown : R → Slot → Option (Kind × Worth)) (b c : BlockIter R P) (same : Same b c) (calls : List Call) (i : ℕ) (outs outs-after : List Outcome) (slots slots-after : List Slot) (used : ℕ) → length calls ≡ i → Matches shown (plain_run b.list (visible_of meaning b) (take i calls)) c slots-after used → take i outs-after ≡ (plain_run b.list (visible_of meaning b) (take i calls)).outcomes → drop i outs-after ≡ drop i outs → drop used slots-after ≡ drop used slots → Played (visible_of meaning b) b.list (shown b.reader) calls outs outs-after slots slots-after c.index used
+pub all_played : {R P : Type 0} (meaning : R → Meaning) (shown : R → Slot → Option (Kind × Worth)) (b c : Cursor R P) (same : Same b c) (calls : List Call) (i : ℕ) (outs outs-after : List (Result (Unit {0}) Fault)) (slots slots-after : List Slot) (used : ℕ) → length calls ≡ i → Matches shown (plain_run b.list (visible_of meaning b) (take i calls)) c slots-after used → take i outs-after ≡ (plain_run b.list (visible_of meaning b) (take i calls)).outcomes → drop i outs-after ≡ drop i outs → drop used slots-after ≡ drop used slots → Played (visible_of meaning b) b.list (shown b.reader) calls outs outs-after slots slots-after c.index used
 all_played meaning shown b c same calls i outs outs-after slots slots-after used end match outcomes others rest =
     let vs = visible_of meaning b in
     let all : take i calls ≡ calls = take_all i calls (omega arith) in
@@ -94,36 +92,14 @@ all_played meaning shown b c same calls i outs outs-after slots slots-after used
     }
 
 -- the buffers are large enough
-pub large_enough : (l : ℕ) (vs : List UnitOf) (calls : List Call) (outs room : ℕ) → None ≡ too_small l vs calls outs room → (length calls ≤ outs) × (length (plain_run l vs calls).shown ≤ room)
+pub large_enough : (l : ℕ) (vs : List UnitOf) (calls : List Call) (outs room : ℕ) → too_small l vs calls outs room ≡ None → (length calls ≤ outs) × (length (plain_run l vs calls).shown ≤ room)
 large_enough l vs calls outs room e =
     elim (cases_Bool (ltb outs (length calls))) [
-      | inl t ↦ (let no : None ≡ Some (FewOutcomes (length calls)) = e ∙ cond-true _ _ _ t in let z : ◌≡◌ {A = ℕ} 0 1 = cc in absurd (omega arith))
+      | inl t ↦ (let no : Some (FewOutcomes (length calls)) ≡ None = sym (cond-true _ _ _ t) ∙ e in let z : ◌≡◌ {A = ℕ} 0 1 = cc in absurd (omega arith))
       | inr f ↦
-          (let rest = e ∙ cond-false _ _ _ f in
+          (let rest = sym (cond-false _ _ _ f) ∙ e in
           elim (cases_Bool (ltb room (length (plain_run l vs calls).shown))) [
-            | inl t ↦ (let no : None ≡ Some (FewSlots (length (plain_run l vs calls).shown)) = rest ∙ cond-true _ _ _ t in let z : ◌≡◌ {A = ℕ} 0 1 = cc in absurd (omega arith))
+            | inl t ↦ (let no : Some (FewSlots (length (plain_run l vs calls).shown)) ≡ None = sym (cond-true _ _ _ t) ∙ rest in let z : ◌≡◌ {A = ℕ} 0 1 = cc in absurd (omega arith))
             | inr h ↦ (ltb-false _ _ f, ltb-false _ _ h)
           ])
     ]
-
--- the answer of a replay whose list is there, by the cursor c that was opened over reader r at list l
-module _ {R P : Type 0} (meaning : R → Meaning) (shown : R → Slot → Option (Kind × Worth)) (layers : R → ℕ) (c : BlockIter R P) (r : R) (l : ℕ) (reader : c.reader ≡ r) (list : c.list ≡ l) (there : l < (meaning r).lists) (calls : List Call) (outs : List Outcome) (slots : List Slot) where
-  visible_is : visible_of meaning c ≡ seen ((meaning r).units l)
-  visible_is = ap (λ (x : R). seen ((meaning x).units c.list)) reader ∙ ap (λ (k : ℕ). seen ((meaning r).units k)) list
-
-  refusal_is : too_small c.list (visible_of meaning c) calls (length outs) (length slots) ≡ refusal (meaning r) (layers r) l calls (length outs) (length slots)
-  refusal_is =
-      ap (λ (vs : List UnitOf). too_small c.list vs calls (length outs) (length slots)) visible_is
-      ∙ ap (λ (k : ℕ). too_small k (seen ((meaning r).units l)) calls (length outs) (length slots)) list
-      ∙ sym (cond-true _ _ _ (lt-ltb l (meaning r).lists there))
-
-  pub replays_none : (e : Refusal) → Some e ≡ too_small c.list (visible_of meaning c) calls (length outs) (length slots) → Replays (meaning r) (shown r) (layers r) l calls outs outs slots slots (Err e)
-  replays_none e is = (sym (is ∙ refusal_is), refl, refl)
-
-  pub replays_all : (outs-after : List Outcome) (slots-after : List Slot) (p : Replayed) → None ≡ too_small c.list (visible_of meaning c) calls (length outs) (length slots) → Played (visible_of meaning c) c.list (shown c.reader) calls outs outs-after slots slots-after p.index p.used → Replays (meaning r) (shown r) (layers r) l calls outs outs-after slots slots-after (Ok p)
-  replays_all outs-after slots-after p is played = (
-    sym (is ∙ refusal_is),
-    subst (λ (x : R). Played (seen ((meaning r).units l)) l (shown x) calls outs outs-after slots slots-after p.index p.used) reader
-        (subst (λ (k : ℕ). Played (seen ((meaning r).units l)) k (shown c.reader) calls outs outs-after slots slots-after p.index p.used) list
-        (subst (λ (vs : List UnitOf). Played vs c.list (shown c.reader) calls outs outs-after slots slots-after p.index p.used) visible_is played)),
-  )

@@ -1,17 +1,12 @@
 -- One run passed, whole or in part.
-use Rattle.std.proofs.Common.{◌≡◌, ℕ, ◌+◌, ◌-◌, ◌<◌, ◌≤◌, Bool, true, false, ◌&&◌, List, [], drop, Some, None, Option, sym, refl, ap, ◌∙◌, subst, add-zero, arith, drop-drop}
-use lib.Seq.{drop-nil}
+use Rattle.std.proofs.Common.{◌≡◌, ℕ, ◌+◌, ◌-◌, ◌<◌, ◌≤◌, true, false, List, length, drop, Some, None, Option, sym, refl, ap, ◌∙◌, subst, inl, inr, add-zero, arith, drop-drop}
+use Rattle.std.proofs.lemmas.Bool.{cases_Bool, cond-true, cond-false}
 use Rattle.std.proofs.lemmas.List.{drop_all}
-use Rattle.block.specs.Kinds.{is_counted}
 use Rattle.block.specs.Units.{UnitOf, Meaning, Stretch, RunOf, unit_at, visible, seen}
 use Rattle.block.proofs.Seen.{run_drop, run_hidden}
-use Rattle.reader.specs.declared.reader.Description.{Description}
-use Rattle.reader.specs.Answers.{Onward, Right, Described, described}
-use Rattle.block_iter.specs.Walks.{Sees, Stepped, to_go}
-
-pub described_some : (m : Meaning) (o : Option Stretch) (d : Description) → Described m o (Some d) → (t : Stretch) × (o ≡ Some t) × (d ≡ described m t)
-described_some m None d h = let z : ◌≡◌ {A = ℕ} 0 1 = cc in absurd (omega arith)
-described_some m (Some t) d h = (t, refl, cc)
+use Rattle.reader.specs.Answers.{Onward, Right}
+use Rattle.block_iter.specs.Cursors.{Sound, cursor}
+use Rattle.block_iter.specs.Walks.{Sees, Stepped, visible_in, to_go}
 
 module _ {P : Type 0} (m : Meaning) (st : P → Option Stretch) (settled : (p : P) (t : Stretch) → st p ≡ Some t → RunOf m t) where
   -- what stands at an index of a list
@@ -35,6 +30,10 @@ module _ {P : Type 0} (m : Meaning) (st : P → Option Stretch) (settled : (p : 
   sees_at p t l rel vs e (u, f, a, b, d) =
       let same : u ≡ t = cc in
       subst (λ (u : Stretch). (u.list ≡ l) × (rel < u.count) × (vs ≡ seen (drop (u.from + rel) (m.units u.list)))) same (a, b, d)
+
+  -- nothing is to come at a place that the reader does not know
+  never_at : (p : P) → st p ≡ None → (l : ℕ) {rel : ℕ} (vs : List UnitOf) → Sees m st l (Some p) rel vs → ⊥
+  never_at p e l vs (t, f, a, b, d) = let no : Some t ≡ None = sym f ∙ e in let z : ◌≡◌ {A = ℕ} 0 1 = cc in omega arith
 
   sees_onward : (t : Stretch) (r : Option P) (l : ℕ) (vs : List UnitOf) → Onward m st t.list (t.from + t.count) r → t.list ≡ l → vs ≡ seen (drop (t.from + t.count) (m.units t.list)) → Sees m st l r 0 vs
   sees_onward t r l vs h e v =
@@ -72,27 +71,40 @@ module _ {P : Type 0} (m : Meaning) (st : P → Option Stretch) (settled : (p : 
       nearer = λ k. let f = onward_nearer t p r e right in omega arith;
     }
 
-  -- the same, by what the reader answers
-  module _ (p : P) (rel left : ℕ) (d : Description) (desc : Described m (st p) (Some d)) (here : ℕ) (here-is : here ≡ d.len - rel) (counted : Bool) (counted_is : counted ≡ is_counted d.kind) where
-    pub shown_is : (b : Bool) → (d.live && counted) ≡ b → (t : Stretch) → d ≡ described m t → visible (unit_at m t.list t.from) ≡ b
-    shown_is b v t q = subst (λ (e : Description). (e.live && is_counted e.kind) ≡ b) q (ap (λ (c : Bool). d.live && c) (sym counted_is) ∙ v)
+  -- the same, by how many visible units the run has
+  module _ (p : P) (rel left : ℕ) where
+    inside_at : (o : Option Stretch) → st p ≡ o → left < visible_in m o - rel → Stepped m st p rel left (Some p) (rel + left) left
+    inside_at None e h = absurd (omega arith)
+    inside_at (Some t) e h =
+        elim (cases_Bool (visible (unit_at m t.list t.from))) [
+          | inl v ↦ step_inside p t e rel left v (omega (arith, cond-true _ t.count 0 v))
+          | inr v ↦ absurd (omega (arith, cond-false _ t.count 0 v))
+        ]
 
-    pub steps_inside : (d.live && counted) ≡ true → left < here → Stepped m st p rel left (Some p) (rel + left) left
-    steps_inside v h =
-        let (t, e, q) = described_some m (st p) d desc in
-        let n : d.len ≡ t.count = ap (λ (e : Description). e.len) q in
-        step_inside p t e rel left (shown_is true v t q) (omega arith)
+    over_at : (o : Option Stretch) → st p ≡ o → visible_in m o - rel ≤ left → (r : Option P) → Right m st p r → Stepped m st p rel left r 0 (visible_in m o - rel)
+    over_at None e h r right =
+        let n : visible_in m None - rel ≡ 0 = omega arith in
+        subst (λ (k : ℕ). Stepped m st p rel left r 0 k) (sym n) (subst (λ (q : Option P). Stepped m st p rel left q 0 0) (sym (right.0 e)) (record {
+          fewer = omega arith;
+          passed = λ l vs s. absurd (never_at p e l vs s);
+          nearer = λ k. rw e (omega arith);
+        }))
+    over_at (Some t) e h r right =
+        elim (cases_Bool (visible (unit_at m t.list t.from))) [
+          | inl v ↦
+              (let n : visible_in m (Some t) - rel ≡ t.count - rel = ap (λ (k : ℕ). k - rel) (cond-true _ t.count 0 v) in
+              subst (λ (k : ℕ). Stepped m st p rel left r 0 k) (sym n) (step_over p t e rel left v (omega (arith, n)) r (right.1 t e)))
+          | inr v ↦
+              (let n : visible_in m (Some t) - rel ≡ 0 = omega (arith, cond-false _ t.count 0 v) in
+              subst (λ (k : ℕ). Stepped m st p rel left r 0 k) (sym n) (step_past p t e rel left v r (right.1 t e)))
+        ]
 
-    pub steps_over : (d.live && counted) ≡ true → here ≤ left → (r : Option P) → Right m st p r → Stepped m st p rel left r 0 here
-    steps_over v h r right =
-        let (t, e, q) = described_some m (st p) d desc in
-        let n : here ≡ t.count - rel = here-is ∙ ap (λ (e : Description). e.len - rel) q in
-        subst (λ (k : ℕ). Stepped m st p rel left r 0 k) (sym n) (step_over p t e rel left (shown_is true v t q) (omega arith) r (right.1 t e))
+    module _ (here : ℕ) (here-is : here ≡ visible_in m (st p) - rel) where
+      pub steps_inside : left < here → Stepped m st p rel left (Some p) (rel + left) left
+      steps_inside h = inside_at (st p) refl (omega (arith, here-is))
 
-    pub steps_past : (d.live && counted) ≡ false → (r : Option P) → Right m st p r → Stepped m st p rel left r 0 0
-    steps_past v r right =
-        let (t, e, q) = described_some m (st p) d desc in
-        step_past p t e rel left (shown_is false v t q) r (right.1 t e)
+      pub steps_over : here ≤ left → (r : Option P) → Right m st p r → Stepped m st p rel left r 0 here
+      steps_over h r right = subst (λ (k : ℕ). Stepped m st p rel left r 0 k) (sym here-is) (over_at (st p) refl (omega (arith, here-is)) r right)
 
   pub sees_drop : (l : ℕ) (place : Option P) (rel i k : ℕ) (vs : List UnitOf) → i ≡ k → Sees m st l place rel (drop i vs) → Sees m st l place rel (drop k vs)
   sees_drop l place rel i k vs e w = subst (λ (n : ℕ). Sees m st l place rel (drop n vs)) e w
@@ -104,10 +116,6 @@ module _ {P : Type 0} (m : Meaning) (st : P → Option Stretch) (settled : (p : 
       (subst (λ (xs : List UnitOf). Sees m st l q into xs) (drop-drop k done vs)
       (s.passed l _ (subst (λ (o : Option P). Sees m st l o rel (drop done vs)) e w)))
 
-  -- the end of a walk that ran out of runs
-  pub walk_out : (place : Option P) → place ≡ None → (rel l done count : ℕ) (vs : List UnitOf) → done ≤ count → Sees m st l place rel (drop done vs) → Sees m st l place rel (drop count vs)
-  walk_out place e rel l done count vs h w =
-      let n : done + (count - done) ≡ count = omega arith in
-      let gone : drop done vs ≡ [] = subst (λ (q : Option P). Sees m st l q rel (drop done vs)) e w in
-      let end : drop count vs ≡ [] = ap (λ (k : ℕ). drop k vs) (sym n) ∙ sym (drop-drop (count - done) done vs) ∙ ap (drop (count - done)) gone ∙ drop-nil (count - done) in
-      subst (λ (q : Option P). Sees m st l q rel (drop count vs)) (sym e) end
+-- a cursor at the start of its list
+pub opened : {R P : Type 0} (meaning : R → Meaning) (stretch : R → P → Option Stretch) (settled : (r : R) (p : P) (t : Stretch) → stretch r p ≡ Some t → RunOf (meaning r) t) (r : R) (l len : ℕ) (o : Option P) → len ≡ length (seen ((meaning r).units l)) → Onward (meaning r) (stretch r) l 0 o → Sound meaning stretch (cursor r l len o 0 0)
+opened meaning stretch settled r l len o n h = record { counted = n; inside = omega arith; ahead = onward_sees (meaning r) (stretch r) (settled r) l 0 o h }

@@ -1,59 +1,55 @@
 -- What any calls of a cursor leave, by the plain cursor.
 use Rattle.std.specs.Prelude.{◌≡◌, ℕ, ◌+◌, ◌≤◌, cond, List, [], ◌∷◌, ◌++◌, length, take, drop, Some, None, Ok, Err, Option, Result, nat_lt}
+use Rattle.std.specs.Result.{result_unwrap_or}
 use Rattle.block.specs.declared.call.Call.{Call}
 use Rattle.block.specs.declared.call.Call.TheVariants.{Skip, Read}
-use Rattle.block.specs.declared.call.Outcome.{Outcome}
-use Rattle.block.specs.declared.call.Outcome.TheVariants as outcomes
 use Rattle.block.specs.declared.fault.Fault.{Fault}
 use Rattle.block.specs.declared.kind.Kind.{Kind}
 use Rattle.block.specs.declared.slot.Slot.{Slot}
-use Rattle.block.specs.Units.{Meaning, Stretch, UnitOf, Worth, seen}
-use Rattle.block.specs.Plain.{Plain, plain_call, plain_run}
+use Rattle.block.specs.Units.{Meaning, UnitOf, Worth, seen}
+use Rattle.block.specs.Plain.{Plain, asked, filled, plain_call, plain_run}
 use Rattle.reader.specs.Answers.{no_list}
-use Rattle.block_iter.specs.declared.block_iter.BlockIter.{BlockIter}
 use Rattle.block_iter.specs.declared.replay.Replayed.{Replayed}
 use Rattle.block_iter.specs.declared.replay.Refusal.{Refusal}
 use Rattle.block_iter.specs.declared.replay.Refusal.TheVariants.{Refused, FewOutcomes, FewSlots}
 use Rattle.block_iter.specs.Walks.{Shows}
-use Rattle.block_iter.specs.Cursors.{Sound, visible_of}
+use Rattle.block_iter.specs.Cursors.{Cursor, visible_of}
 
-abbrev pub outcome_of : Result (Unit {0}) Fault → Outcome
-outcome_of (Ok x) = outcomes.Done
-outcome_of (Err e) = outcomes.Refused e
+-- the outcome of a call that filled so many slots or was refused
+abbrev pub outcome_of : Result ℕ Fault → Result (Unit {0}) Fault
+outcome_of (Ok n) = Ok tt
+outcome_of (Err e) = Err e
 
 -- a cursor with its slots so far is where a plain cursor is
-pub record Matches {R P : Type 0} (shown : R → Slot → Option (Kind × Worth)) (s : Plain) (c : BlockIter R P) (slots : List Slot) (used : ℕ) : Type 0 where
+pub record Matches {R P : Type 0} (shown : R → Slot → Option (Kind × Worth)) (s : Plain) (c : Cursor R P) (slots : List Slot) (used : ℕ) : Type 0 where
   pub index : c.index ≡ s.index
   pub many : used ≡ length s.shown
   pub values : Shows (shown c.reader) (take used slots) s.shown
 
--- one call in numbers, on any list of len visible units: the plain cursor's index, and how many units it has shown
-abbrev pub Counts : ℕ → ℕ → ℕ → Call → ℕ × ℕ → Type 0
-Counts len index used call r =
-    (l : ℕ) (vs : List UnitOf) (s : Plain) → len ≡ length vs → index ≡ s.index → used ≡ length s.shown →
-    (r.0 ≡ (plain_call l vs s call).index) × (r.1 ≡ length (plain_call l vs s call).shown)
+-- one call in numbers, on a list of len visible units: the index, and how many slots are filled, after it
+abbrev pub counted : ℕ → ℕ × ℕ → Call → ℕ × ℕ
+counted len t call = cond (nat_lt len (t.0 + asked call)) t (t.0 + asked call, t.1 + filled call)
 
 -- there are slots for what a call reads
-abbrev pub Room : {R P : Type 0} → (R → Meaning) → BlockIter R P → Call → ℕ → ℕ → Type 0
+abbrev pub Room : {R P : Type 0} → (R → Meaning) → Cursor R P → Call → ℕ → ℕ → Type 0
 Room meaning c (Skip n) used room = Unit {0}
 Room meaning c (Read n) used room = (used ≤ room) × (c.index + n ≤ length (visible_of meaning c) → used + n ≤ room)
 
 -- a fresh cursor, with room for the outcomes of all calls and for what they read
-pub record Ready {R P : Type 0} (meaning : R → Meaning) (stretch : R → P → Option Stretch) (c : BlockIter R P) (calls : List Call) (outs room : ℕ) : Type 0 where
-  pub sound : Sound meaning stretch c
+pub record Ready {R P : Type 0} (meaning : R → Meaning) (c : Cursor R P) (calls : List Call) (outs room : ℕ) : Type 0 where
   pub fresh : c.index ≡ 0
   pub each : length calls ≤ outs
   pub enough : length (plain_run c.list (visible_of meaning c) calls).shown ≤ room
 
 -- one call goes as the plain cursor's
-abbrev pub Performed : {R P : Type 0} → (R → Meaning) → (R → Slot → Option (Kind × Worth)) → BlockIter R P → Call → List Slot → ℕ → Outcome × ℕ → BlockIter R P → List Slot → Type 0
+abbrev pub Performed : {R P : Type 0} → (R → Meaning) → (R → Slot → Option (Kind × Worth)) → Cursor R P → Call → List Slot → ℕ → Result ℕ Fault → Cursor R P → List Slot → Type 0
 Performed meaning shown c call slots used r d after =
     (s : Plain) → Matches shown s c slots used →
-    ((plain_call c.list (visible_of meaning c) s call).outcomes ≡ s.outcomes ++ (r.0 ∷ [])) × Matches shown (plain_call c.list (visible_of meaning c) s call) d after r.1
+    ((plain_call c.list (visible_of meaning c) s call).outcomes ≡ s.outcomes ++ (outcome_of r ∷ [])) × Matches shown (plain_call c.list (visible_of meaning c) s call) d after (used + result_unwrap_or r 0)
 
 -- what all calls leave: the plain cursor's outcomes, index and shown units; it has passed the first visible units,
 -- each once, as many as its index `at`; outcomes and slots that were not used stay
-pub record Played (vs : List UnitOf) (l : ℕ) (shown : Slot → Option (Kind × Worth)) (calls : List Call) (outs outs-after : List Outcome) (slots slots-after : List Slot) (at used : ℕ) : Type 0 where
+pub record Played (vs : List UnitOf) (l : ℕ) (shown : Slot → Option (Kind × Worth)) (calls : List Call) (outs outs-after : List (Result (Unit {0}) Fault)) (slots slots-after : List Slot) (at used : ℕ) : Type 0 where
   pub outcomes : take (length calls) outs-after ≡ (plain_run l vs calls).outcomes
   pub index : at ≡ (plain_run l vs calls).index
   pub passed : (plain_run l vs calls).passed ≡ take at vs
@@ -68,11 +64,16 @@ too_small l vs calls outs room =
     cond (nat_lt outs (length calls)) (Some (FewOutcomes (length calls)))
     (cond (nat_lt room (length (plain_run l vs calls).shown)) (Some (FewSlots (length (plain_run l vs calls).shown))) None)
 
+-- what a cursor that was just opened answers to calls: a buffer is too small, and then nothing changes; or all calls were made
+abbrev pub Plays : List UnitOf → ℕ → (Slot → Option (Kind × Worth)) → List Call → List (Result (Unit {0}) Fault) → List (Result (Unit {0}) Fault) → List Slot → List Slot → Result Replayed Refusal → Type 0
+Plays vs l shown calls outs outs-after slots slots-after (Ok p) = (too_small l vs calls (length outs) (length slots) ≡ None) × Played vs l shown calls outs outs-after slots slots-after p.index p.used
+Plays vs l shown calls outs outs-after slots slots-after (Err e) = (too_small l vs calls (length outs) (length slots) ≡ Some e) × (outs-after ≡ outs) × (slots-after ≡ slots)
+
 -- why no call is made, if so: the list is not there, or a buffer is too small
 abbrev pub refusal : Meaning → ℕ → ℕ → List Call → ℕ → ℕ → Option Refusal
 refusal m layers l calls outs room = cond (nat_lt l m.lists) (too_small l (seen (m.units l)) calls outs room) (Some (Refused (no_list layers l)))
 
 -- what a replay answers: refused before the first call, and then nothing changes; or all calls were made
-abbrev pub Replays : Meaning → (Slot → Option (Kind × Worth)) → ℕ → ℕ → List Call → List Outcome → List Outcome → List Slot → List Slot → Result Replayed Refusal → Type 0
+abbrev pub Replays : Meaning → (Slot → Option (Kind × Worth)) → ℕ → ℕ → List Call → List (Result (Unit {0}) Fault) → List (Result (Unit {0}) Fault) → List Slot → List Slot → Result Replayed Refusal → Type 0
 Replays m shown layers l calls outs outs-after slots slots-after (Ok p) = (refusal m layers l calls (length outs) (length slots) ≡ None) × Played (seen (m.units l)) l shown calls outs outs-after slots slots-after p.index p.used
 Replays m shown layers l calls outs outs-after slots slots-after (Err e) = (refusal m layers l calls (length outs) (length slots) ≡ Some e) × (outs-after ≡ outs) × (slots-after ≡ slots)

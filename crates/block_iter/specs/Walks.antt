@@ -1,14 +1,19 @@
 -- What is still to come at a place, and what a walk over runs leaves of it.
-use Rattle.std.specs.Prelude.{◌≡◌, ℕ, suc, ◌+◌, ◌-◌, ◌<◌, ◌≤◌, List, [], map, length, take, drop, Some, None, Option}
+use Rattle.std.specs.Prelude.{◌≡◌, ℕ, suc, ◌+◌, ◌-◌, ◌<◌, ◌≤◌, List, [], map, length, take, drop, Some, None, Option, if◌then◌else◌}
 use Rattle.block.specs.declared.kind.Kind.{Kind}
 use Rattle.block.specs.declared.slot.Slot.{Slot}
-use Rattle.block.specs.Units.{Meaning, Stretch, UnitOf, Worth, seen}
+use Rattle.block.specs.Units.{Meaning, Stretch, UnitOf, Worth, unit_at, visible, seen}
 use Rattle.block.specs.Values.{facet}
 
 -- vs are the visible units of list l that are still to come, rel units into the run at a place; no place: none come
 abbrev pub Sees : {P : Type 0} → Meaning → (P → Option Stretch) → ℕ → Option P → ℕ → List UnitOf → Type 0
 Sees m st l None rel vs = vs ≡ []
 Sees m st l (Some p) rel vs = (t : Stretch) × (st p ≡ Some t) × (t.list ≡ l) × (rel < t.count) × (vs ≡ seen (drop (t.from + rel) (m.units t.list)))
+
+-- how many visible units a run has
+abbrev pub visible_in : Meaning → Option Stretch → ℕ
+visible_in m None = 0
+visible_in m (Some t) = if visible (unit_at m t.list t.from) then t.count else 0
 
 -- how far it is at most from a place to the end of its list
 abbrev pub span_left : Meaning → Option Stretch → ℕ
@@ -26,8 +31,8 @@ pub record Stepped {P : Type 0} (m : Meaning) (st : P → Option Stretch) (p : P
   pub nearer : 0 < left → to_go m st q + (left - k) < to_go m st (Some p) + left
 
 -- k visible units were passed
-abbrev pub Walked : {P : Type 0} → Meaning → (P → Option Stretch) → Option P → ℕ → ℕ → Option P × ℕ → Type 0
-Walked m st place rel k r = (l : ℕ) (vs : List UnitOf) → Sees m st l place rel vs → Sees m st l r.0 r.1 (drop k vs)
+abbrev pub Walked : {P : Type 0} → Meaning → (P → Option Stretch) → Option P → ℕ → ℕ → Option P → ℕ → Type 0
+Walked m st place rel k q into = (l : ℕ) (vs : List UnitOf) → Sees m st l place rel vs → Sees m st l q into (drop k vs)
 
 -- the slots show these units
 abbrev pub Shows : (Slot → Option (Kind × Worth)) → List Slot → List UnitOf → Type 0
@@ -40,5 +45,5 @@ pub record Took {P : Type 0} (m : Meaning) (st : P → Option Stretch) (shown : 
   pub rest : drop k after ≡ drop k before
 
 -- where there are enough units to come, the slots show the next ones
-abbrev pub Filled : {P : Type 0} → Meaning → (P → Option Stretch) → (Slot → Option (Kind × Worth)) → Option P → ℕ → List Slot → Option P × ℕ → Type 0
-Filled m st shown place rel slots r = (l : ℕ) (vs : List UnitOf) → Sees m st l place rel vs → length slots ≤ length vs → Shows shown slots (take (length slots) vs) × Sees m st l r.0 r.1 (drop (length slots) vs)
+abbrev pub Filled : {P : Type 0} → Meaning → (P → Option Stretch) → (Slot → Option (Kind × Worth)) → Option P → ℕ → List Slot → Option P → ℕ → Type 0
+Filled m st shown place rel slots q into = (l : ℕ) (vs : List UnitOf) → Sees m st l place rel vs → length slots ≤ length vs → Shows shown slots (take (length slots) vs) × Sees m st l q into (drop (length slots) vs)

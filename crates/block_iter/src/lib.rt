@@ -1,6 +1,5 @@
 #![tactic(auto)]
 
 pub mod block_iter;
-mod fill;
+mod position;
 pub mod replay;
-mod walk;

@@ -10,7 +10,7 @@ use Rattle.document.specs.Sound.{Linked}
 use Rattle.chain.specs.Chains.{Ends, spell_left, next, InList, Inserted}
 
 pub no_some : {A : Type 0} {B : Type 0} {x : A} → ◌≡◌ {A = Option A} None (Some x) → B
-no_some h = let z : ◌≡◌ {A = ℕ} 0 1 = cc in absurd (omega arith)
+no_some h = cc
 
 pub some_same : {a b : ℕ} → ◌≡◌ {A = Option ℕ} (Some a) (Some b) → a ≡ b
 some_same h = cc
@@ -47,7 +47,7 @@ some_plus k (Some x) = refl
 pub ends_from : (s : Store) (o : Option ℕ) (f : ℕ) → is_some (upto s o f) ≡ true → (k : ℕ) × (k ≤ f) × Ends s o k
 unfolding upto Ends
 ends_from s None f h = (0, omega arith, tt)
-ends_from s (Some j) zero h = let z : ◌≡◌ {A = ℕ} 0 1 = cc in absurd (omega arith)
+ends_from s (Some j) zero h = cc
 ends_from s (Some j) (suc f) h =
     let r = ends_from s (run_at s j).left f (sym (some_plus (run_at s j).len (upto s (run_at s j).left f)) ∙ h) in
     (suc r.0, omega (arith, r.1), r.2)

@@ -16,7 +16,7 @@ unfolding meets
 meets_on s t j o n e h = or_right (eqb j t) (meets s t (run_at s j).right n) (ap (λ (x : Option ℕ). meets s t x n) e ∙ h)
 
 no_truth : {B : Type 0} → false ≡ true → B
-no_truth h = let z : ◌≡◌ {A = ℕ} 0 1 = cc in absurd (omega arith)
+no_truth h = cc
 
 meets_more : (s : Store) (t : ℕ) (o : Option ℕ) (n k : ℕ) → meets s t o n ≡ true → n ≤ k → meets s t o k ≡ true
 unfolding meets

@@ -10,11 +10,11 @@ at f rs (Some i) = slice_set rs i (f (slice_index_or rs i no_run))
 
 -- a run whose right neighbour is run n
 abbrev pub rightward : ℕ → RunRecord → RunRecord
-rightward n r = record { id = r.id; len = r.len; kind = r.kind; live = r.live; list = r.list; left = r.left; right = Some n; redone = r.redone; entry = r.entry }
+rightward n r = record r { right = Some n }
 
 -- a run whose left neighbour is run n
 abbrev pub leftward : ℕ → RunRecord → RunRecord
-leftward n r = record { id = r.id; len = r.len; kind = r.kind; live = r.live; list = r.list; left = Some n; right = r.right; redone = r.redone; entry = r.entry }
+leftward n r = record r { left = Some n }
 
 -- record n is this run, and the runs p and q name it as their neighbour
 abbrev pub joined : List RunRecord → ℕ → RunRecord → Option ℕ → Option ℕ → List RunRecord

@@ -1,32 +1,19 @@
-ghost use Rattle.std.specs.Prelude.{◌≡◌, slice_set};
-ghost use Rattle.chain.specs.Joins.{at, rightward, leftward, joined};
+ghost use Rattle.std.specs.Prelude.{◌≡◌};
+ghost use Rattle.store.specs.declared.records.RunRecord.{RunRecord};
+ghost use Rattle.chain.specs.Joins.{at, joined};
 
 use store::records::RunRecord;
 
-fn put(runs: &mut [RunRecord], n: u32, run: RunRecord)
-    ensures { runs.new ≡ slice_set runs.old n run }
+// Makes of the run with this number another one, if there is such a run.
+fn change<F: Fn(RunRecord) -> RunRecord>(runs: &mut [RunRecord], place: Option<u32>, other: F)
+    requires { F.IsAlwaysCallable other }
+    ensures { (f : RunRecord → RunRecord) → ((r s : RunRecord) → F.post other r s → s ≡ f r) → runs.new ≡ at f runs.old place }
 {
-    if (n as usize) < runs.len() {
-        runs[n as usize] = run;
-    }
-}
-
-fn turn_right(runs: &mut [RunRecord], left: Option<u32>, n: u32)
-    ensures { runs.new ≡ at (rightward n) runs.old left }
-{
-    if let Some(p) = left {
-        if (p as usize) < runs.len() {
-            runs[p as usize].right = Some(n);
-        }
-    }
-}
-
-fn turn_left(runs: &mut [RunRecord], right: Option<u32>, n: u32)
-    ensures { runs.new ≡ at (leftward n) runs.old right }
-{
-    if let Some(q) = right {
-        if (q as usize) < runs.len() {
-            runs[q as usize].left = Some(n);
+    // by index, since a proof knows no element of a slice after `get_mut`
+    if let Some(i) = place {
+        if (i as usize) < runs.len() {
+            let run = runs[i as usize];
+            runs[i as usize] = other(run);
         }
     }
 }
@@ -35,7 +22,15 @@ fn turn_left(runs: &mut [RunRecord], right: Option<u32>, n: u32)
 pub fn join(runs: &mut [RunRecord], n: u32, run: RunRecord, left: Option<u32>, right: Option<u32>)
     ensures { runs.new ≡ joined runs.old n run left right }
 {
-    put(runs, n, run);
-    turn_right(runs, left, n);
-    turn_left(runs, right, n);
+    let rightward = |old: RunRecord| RunRecord {
+        right: Some(n),
+        ..old
+    };
+    let leftward = |old: RunRecord| RunRecord {
+        left: Some(n),
+        ..old
+    };
+    change(runs, Some(n), |_old| run);
+    change(runs, left, rightward);
+    change(runs, right, leftward);
 }

@@ -1,6 +1,7 @@
 -- How many visible units a clip shows.
-use Rattle.std.proofs.Common.{◌≡◌, ℕ, ◌+◌, ◌-◌, ◌<◌, ◌≤◌, Bool, cond, ◌&&◌, List, length, Some, None, filter, Option, sym, refl, ap, ◌∙◌, subst, inl, inr, arith}
+use Rattle.std.proofs.Common.{◌≡◌, ℕ, ◌+◌, ◌-◌, ◌<◌, ◌≤◌, Bool, true, false, cond, ◌&&◌, List, length, Some, None, filter, Option, sym, refl, ap, ◌∙◌, subst, inl, inr, arith}
 use Rattle.std.proofs.lemmas.Bool.{cases_lt, cases_Bool, lt-ltb, le-ltb, and_from, and_left, and_right, cond-true, cond-false}
+use Rattle.std.specs.Option.{MatchOption}
 use Rattle.block.specs.Kinds.{is_counted}
 use Rattle.block.specs.Units.{Meaning, Stretch, UnitOf, RunOf, unit_at, no_unit, visible, seen}
 use Rattle.reader.specs.Answers.{Described, described, Right, Begins, Onward}
@@ -55,7 +56,7 @@ module _ (limit : ℕ → ℕ) (m : Meaning) where
               omega (arith, cond-false _ (shown_part limit m t) 0 e))
         ]
 
-  pub adds_some : (o : Option Stretch) (d : Description) → ((t : Stretch) → o ≡ Some t → RunOf m t) → Described (clipped limit m) (cut limit m o) (Some d) → cond (d.live && is_counted d.kind) d.len 0 ≡ adds_of limit m o
+  adds_some : (o : Option Stretch) (d : Description) → ((t : Stretch) → o ≡ Some t → RunOf m t) → Described (clipped limit m) (cut limit m o) (Some d) → cond (d.live && is_counted d.kind) d.len 0 ≡ adds_of limit m o
   adds_some None d runs e = absurd (let z : ◌≡◌ {A = ℕ} 0 1 = cc in omega arith)
   adds_some (Some t) d runs e =
       elim (cases_lt 0 (shown_part limit m t)) [
@@ -65,6 +66,18 @@ module _ (limit : ℕ → ℕ) (m : Meaning) where
             ap (λ (y : Description). cond (y.live && is_counted y.kind) y.len 0) q ∙ ap (λ (y : UnitOf). cond (visible y) (shown_part limit m t) 0) (first_at limit m t (runs t refl) h))
         | inr h ↦ absurd (let x = subst (λ b. Described (clipped limit m) (cond b (Some (moved limit m t)) None) (Some d)) (le-ltb 0 _ h) e in let z : ◌≡◌ {A = ℕ} 0 1 = cc in omega arith)
       ]
+
+  adds_none : (o : Option Stretch) → Described (clipped limit m) (cut limit m o) None → adds_of limit m o ≡ 0
+  adds_none None e = refl
+  adds_none (Some t) e =
+      elim (cases_lt 0 (shown_part limit m t)) [
+        | inl h ↦ absurd (let x = subst (λ b. Described (clipped limit m) (cond b (Some (moved limit m t)) None) None) (lt-ltb 0 _ h) e in let z : ◌≡◌ {A = ℕ} 0 1 = cc in omega arith)
+        | inr h ↦ elim (visible (unit_at m t.list t.from)) as (λ b. cond b (shown_part limit m t) 0 ≡ 0) [ true ↦ omega arith | false ↦ refl ]
+      ]
+
+  pub adds : (o : Option Stretch) (d : Option Description) (n : ℕ) → ((t : Stretch) → o ≡ Some t → RunOf m t) → Described (clipped limit m) (cut limit m o) d → MatchOption d (n ≡ 0) (λ d. n ≡ cond (d.live && is_counted d.kind) d.len 0) → n ≡ adds_of limit m o
+  adds o None n runs e h = h ∙ sym (adds_none o e)
+  adds o (Some d) n runs e h = h ∙ adds_some o d runs e
 
 -- a step of the walk
 pub count_step : {P : Type 0} (limit : ℕ → ℕ) (m : Meaning) (st : P → Option Stretch) (runs : RunsOf m st) (p : P) (l e n : ℕ) (r : Option P) → Begins st p l e → n ≡ counted limit m l e → Right m st p r → (f : ℕ) × Onward m st l f r × (n + adds_of limit m (st p) ≡ counted limit m l f) × (f ≤ length (m.units l))

@@ -1,7 +1,7 @@
 -- What joined pairs say of each client, and that they are sound.
-use Rattle.std.proofs.Common.{◌≡◌, ℕ, ◌+◌, ◌^◌, ◌<◌, ◌≤◌, min, true, false, cond, eqb, ltb, List, [], ◌∷◌, ◌++◌, length, get_or, take, drop, set, sym, refl, ap, ◌∙◌, inl, inr, append_assoc, arith}
+use Rattle.std.proofs.Common.{◌≡◌, ℕ, ◌+◌, ◌^◌, ◌<◌, ◌≤◌, min, true, false, cond, ◌||◌, eqb, ltb, List, [], ◌∷◌, ◌++◌, length, get_or, drop, sym, refl, ap, ◌∙◌, inl, inr, append_assoc, arith, length-append}
 use mathlib.Core.Path.{fun_ext}
-use Rattle.std.proofs.lemmas.List.{at_drop_more, at_drop_all, length-set, take_more_set, append-nil}
+use Rattle.std.proofs.lemmas.List.{at_drop_more, at_drop_all, append-nil}
 use Rattle.std.proofs.lemmas.Bool.{cases_Bool, cond-true, cond-false, eqb-true, ltb-true, lt-ltb, and_parts, and_from, not-true, not_from_false, both_ways}
 use Rattle.clip.specs.declared.pair.Pair.{Pair}
 use Rattle.clip.specs.declared.pairs.Pairs.{Pairs}
@@ -20,8 +20,8 @@ unlisted : (c : ℕ) (qs : List Pair) → listed c qs ≡ false → limit_in qs 
 unlisted c [] e = refl
 unlisted c (q ∷ qs) e =
     elim (cases_Bool (eqb q.client c)) [
-      | inl s ↦ absurd (both_ways _ e (cond-true _ _ _ s))
-      | inr s ↦ cond-false _ _ _ s ∙ unlisted c qs (sym (cond-false _ _ _ s) ∙ e)
+      | inl s ↦ absurd (both_ways _ e (ap (λ b. b || listed c qs) s))
+      | inr s ↦ cond-false _ _ _ s ∙ unlisted c qs (sym (ap (λ b. b || listed c qs) s) ∙ e)
     ]
 
 limit_more : (p : Pair) (ps qs : List Pair) (c : ℕ) → limit_in (joined ps qs) c ≡ min (limit_in ps c) (limit_in qs c) → limit_in (joined (p ∷ ps) qs) c ≡ min (limit_in (p ∷ ps) c) (limit_in qs c)
@@ -45,10 +45,10 @@ listed_joined : (c : ℕ) (ps qs : List Pair) → listed c ps ≡ false → list
 listed_joined c [] qs e = refl
 listed_joined c (p ∷ ps) qs e =
     elim (cases_Bool (eqb p.client c)) [
-      | inl s ↦ absurd (both_ways _ e (cond-true _ _ _ s))
+      | inl s ↦ absurd (both_ways _ e (ap (λ b. b || listed c ps) s))
       | inr s ↦
-          (let ih = listed_joined c ps qs (sym (cond-false _ _ _ s) ∙ e) in
-          elim (listed p.client qs) as (λ b. listed c (cond b (lower qs p ∷ joined ps qs) (joined ps qs)) ≡ false) [ true ↦ cond-false _ _ _ s ∙ ih | false ↦ ih ])
+          (let ih = listed_joined c ps qs (sym (ap (λ b. b || listed c ps) s) ∙ e) in
+          elim (listed p.client qs) as (λ b. listed c (cond b (lower qs p ∷ joined ps qs) (joined ps qs)) ≡ false) [ true ↦ ap (λ b. b || listed c (joined ps qs)) s ∙ ih | false ↦ ih ])
     ]
 
 lower_in_range : (qs : List Pair) (p : Pair) → in_range p ≡ true → in_range (lower qs p) ≡ true
@@ -78,29 +78,34 @@ joins a b r e =
       turned = λ m. ap (λ (f : ℕ → ℕ). clipped f m) (fun_ext other) ∙ sym (one_clip (limit_of b) (limit_of a) m);
     }
 
--- of the first i pairs those that are kept stand in the first n places, and the join of the others is to come
-abbrev pub Partly : List Pair → List Pair → ℕ → ℕ → List Pair → Type 0
-Partly ps qs i n all = (length all ≡ 64) × (n ≤ i) × (take n all ++ joined (drop i ps) qs ≡ joined ps qs)
+listed_front : (c : ℕ) (xs ys : List Pair) → listed c (xs ++ ys) ≡ false → listed c xs ≡ false
+listed_front c [] ys e = refl
+listed_front c (x ∷ xs) ys e =
+    elim (cases_Bool (eqb x.client c)) [
+      | inl s ↦ absurd (both_ways _ e (ap (λ b. b || listed c (xs ++ ys)) s))
+      | inr s ↦ ap (λ b. b || listed c xs) s ∙ listed_front c xs ys (sym (ap (λ b. b || listed c (xs ++ ys)) s) ∙ e)
+    ]
 
-module _ (ps qs all : List Pair) (i n : ℕ) (d : Pair) (inside : i < length ps) (inv : Partly ps qs i n all) where
-  pub turn_kept : length ps ≤ 64 → listed (get_or ps i d).client qs ≡ true → Partly ps qs (i + 1) (n + 1) (set all n (lower qs (get_or ps i d)))
-  turn_kept few s =
+sound_front : (xs ys : List Pair) → sound (xs ++ ys) ≡ true → sound xs ≡ true
+sound_front [] ys e = refl
+sound_front (x ∷ xs) ys e =
+    let all = and_parts _ _ e in
+    let here = and_parts _ _ all.0 in
+    and_from _ _ (and_from _ _ here.0 (not_from_false _ (listed_front x.client xs ys (not-true _ here.1)))) (sound_front xs ys all.1)
+
+-- of the first i pairs these are kept, and the join of the others is to come
+abbrev pub Partly : List Pair → List Pair → ℕ → List Pair → Type 0
+Partly ps qs i r = (length r ≤ i) × (r ++ joined (drop i ps) qs ≡ joined ps qs)
+
+module _ (ps qs r : List Pair) (i : ℕ) (d : Pair) (inside : i < length ps) (inv : Partly ps qs i r) where
+  turn_kept : listed (get_or ps i d).client qs ≡ true → Partly ps qs (i + 1) (r ++ lower qs (get_or ps i d) ∷ [])
+  turn_kept s =
       let p : Pair = get_or ps i d in
-      let room : n < length all = omega (arith, inv.0, inv.1) in
-      let next : joined (drop i ps) qs ≡ lower qs p ∷ joined (drop (i + 1) ps) qs = at_drop_more (λ xs. joined xs qs) ps i d inside ∙ cond-true _ _ _ s in (
-        length-set all n (lower qs p) ∙ inv.0,
-        omega (arith, inv.1),
-        ap (λ xs. xs ++ joined (drop (i + 1) ps) qs) (take_more_set all n (lower qs p) room) ∙
-            append_assoc (take n all) (lower qs p ∷ []) (joined (drop (i + 1) ps) qs) ∙
-            ap (λ xs. take n all ++ xs) (sym next) ∙
-            inv.2,
-      )
+      let next : joined (drop i ps) qs ≡ lower qs p ∷ joined (drop (i + 1) ps) qs = at_drop_more (λ xs. joined xs qs) ps i d inside ∙ cond-true _ _ _ s in
+      (omega (arith, inv.0, length-append r (lower qs p ∷ [])), append_assoc r (lower qs p ∷ []) (joined (drop (i + 1) ps) qs) ∙ ap (λ xs. r ++ xs) (sym next) ∙ inv.1)
 
-  pub turn_dropped : listed (get_or ps i d).client qs ≡ false → Partly ps qs (i + 1) n all
-  turn_dropped s =
-      let next : joined (drop i ps) qs ≡ joined (drop (i + 1) ps) qs = at_drop_more (λ xs. joined xs qs) ps i d inside ∙ cond-false _ _ _ s in
-      (inv.0, omega (arith, inv.1), ap (λ xs. take n all ++ xs) (sym next) ∙ inv.2)
+  pub turn_sound : listed (get_or ps i d).client qs ≡ true → sound ps ≡ true → sound (r ++ lower qs (get_or ps i d) ∷ []) ≡ true
+  turn_sound s e = sound_front (r ++ lower qs (get_or ps i d) ∷ []) (joined (drop (i + 1) ps) qs) (ap sound (turn_kept s).1 ∙ sound_joined ps qs e)
 
-pub turns_end : (ps qs all : List Pair) (i n : ℕ) → length ps ≤ i → Partly ps qs i n all → take n all ≡ joined ps qs
-turns_end ps qs all i n h inv =
-    sym (append-nil (take n all)) ∙ ap (λ xs. take n all ++ xs) (sym (at_drop_all (λ xs. joined xs qs) ps i h)) ∙ inv.2
+pub turns_end : (ps qs r : List Pair) (i : ℕ) → length ps ≤ i → Partly ps qs i r → r ≡ joined ps qs
+turns_end ps qs r i h inv = sym (append-nil r) ∙ ap (λ xs. r ++ xs) (sym (at_drop_all (λ xs. joined xs qs) ps i h)) ∙ inv.1

@@ -1,5 +1,8 @@
 -- The next run of a client that a clip shows.
-use Rattle.std.proofs.Common.{◌≡◌, ℕ, ◌+◌, ◌<◌, ◌≤◌, true, false, is_some, Some, None, Option, sym, ap, ◌∙◌, subst, arith}
+use Rattle.std.proofs.Common.{◌≡◌, ℕ, ◌+◌, ◌<◌, ◌≤◌, true, false, is_some, Some, None, Option, sym, ap, ◌∙◌, subst, inl, inr, arith}
+use Rattle.std.specs.Bool.{then_some}
+use Rattle.std.specs.Option.{MatchOption}
+use Rattle.std.proofs.lemmas.Bool.{cases_Bool}
 use Rattle.block.specs.Units.{Meaning, Stretch, UnitOf, unit_at}
 use Rattle.reader.specs.Answers.{Later, Nearest}
 use Rattle.clip.specs.Clipped.{clipped, shown_part, moved, cut}
@@ -19,10 +22,10 @@ module _ {P : Type 0} (limit : ℕ → ℕ) (m : Meaning) (st : P → Option Str
   pub nearest_past : limit client ≤ clock → Nearest (clipped limit m) (λ p. cut limit m (st p)) client clock None
   nearest_past h = λ l i later. let a = later_from l i later in omega (arith, a.1.2, a.2)
 
-  pub nearest_none : Nearest m st client clock None → Nearest (clipped limit m) (λ p. cut limit m (st p)) client clock None
+  nearest_none : Nearest m st client clock None → Nearest (clipped limit m) (λ p. cut limit m (st p)) client clock None
   nearest_none f = λ l i later. let a = later_from l i later in f l a.0 a.1
 
-  pub nearest_shown : (p : P) → clock < limit client → Nearest m st client clock (Some p) → is_some (cut limit m (st p)) ≡ true → Nearest (clipped limit m) (λ q. cut limit m (st q)) client clock (Some p)
+  nearest_shown : (p : P) → clock < limit client → Nearest m st client clock (Some p) → is_some (cut limit m (st p)) ≡ true → Nearest (clipped limit m) (λ q. cut limit m (st q)) client clock (Some p)
   nearest_shown p h f s =
       let t = f.0 in
       let part = part_some limit m (st p) t f.1 s in
@@ -38,9 +41,18 @@ module _ {P : Type 0} (limit : ℕ → ℕ) (m : Meaning) (st : P → Option Str
             omega (arith, ap (λ (x : UnitOf). x.id.clock) first, ap (λ (x : UnitOf). x.id.clock) a.3),
       )
 
-  pub nearest_hidden : (p : P) → Nearest m st client clock (Some p) → is_some (cut limit m (st p)) ≡ false → Nearest (clipped limit m) (λ q. cut limit m (st q)) client clock None
+  nearest_hidden : (p : P) → Nearest m st client clock (Some p) → is_some (cut limit m (st p)) ≡ false → Nearest (clipped limit m) (λ q. cut limit m (st q)) client clock None
   nearest_hidden p f s = λ l i later.
       let t = f.0 in
       let a = later_from l i later in
       let least = f.4 l a.0 a.1 in
       omega (arith, part_none limit m (st p) t f.1 s, (runs p t f.1).some, ap limit f.2, a.2)
+
+  -- what is nearest below, kept if its run is shown
+  pub nearest : (o r : Option P) → clock < limit client → Nearest m st client clock o → MatchOption o (r ≡ None) (λ p. r ≡ then_some (is_some (cut limit m (st p))) p) → Nearest (clipped limit m) (λ p. cut limit m (st p)) client clock r
+  nearest None r h f e = subst (Nearest (clipped limit m) (λ p. cut limit m (st p)) client clock) (sym e) (nearest_none f)
+  nearest (Some p) r h f e =
+      elim (cases_Bool (is_some (cut limit m (st p)))) [
+        | inl s ↦ subst (Nearest (clipped limit m) (λ q. cut limit m (st q)) client clock) (sym (e ∙ ap (λ b. then_some b p) s)) (nearest_shown p h f s)
+        | inr s ↦ subst (Nearest (clipped limit m) (λ q. cut limit m (st q)) client clock) (sym (e ∙ ap (λ b. then_some b p) s)) (nearest_hidden p f s)
+      ]

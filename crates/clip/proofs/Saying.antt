@@ -1,6 +1,6 @@
 -- What a clip says of a run.
-use Rattle.std.proofs.Common.{◌≡◌, ℕ, ◌-◌, ◌<◌, ◌≤◌, min, cond, Some, None, Option, sym, refl, ap, subst, arith}
-use Rattle.std.proofs.lemmas.Bool.{lt-ltb, le-ltb}
+use Rattle.std.proofs.Common.{◌≡◌, ℕ, ◌-◌, ◌<◌, min, cond, Some, None, Option, sym, refl, ap, subst, arith}
+use Rattle.std.proofs.lemmas.Bool.{lt-ltb}
 use Rattle.block.specs.Units.{Meaning, Stretch, UnitOf, RunOf, unit_at}
 use Rattle.reader.specs.Answers.{Described, described}
 use Rattle.reader.specs.declared.reader.Description.{Description}
@@ -22,10 +22,3 @@ module _ (limit : ℕ → ℕ) (m : Meaning) where
   said_some (Some t) d runs e h =
       let q : described m t ≡ d = cc in
       subst (λ x. x.id.clock < limit x.id.client → Described (clipped limit m) (cut limit m (Some t)) (Some (shorter limit x))) q (said_at t (runs t refl)) h
-
-  pub said_hidden : (o : Option Stretch) (d : Description) → Described m o (Some d) → limit d.id.client ≤ d.id.clock → Described (clipped limit m) (cut limit m o) None
-  said_hidden None d e h = refl
-  said_hidden (Some t) d e h =
-      let q : d ≡ described m t = cc in
-      let h2 = subst (λ (x : Description). limit x.id.client ≤ x.id.clock) q h in
-      subst (λ b. Described (clipped limit m) (cond b (Some (moved limit m t)) None) None) (sym (le-ltb 0 (shown_part limit m t) (omega arith))) refl

@@ -1,5 +1,6 @@
 -- What a list of pairs says of each client.
-use Rattle.std.specs.Prelude.{ℕ, ◌^◌, Bool, true, false, cond, not, ◌&&◌, List, [], ◌∷◌, ◌==◌, nat_lt}
+use Rattle.std.specs.Prelude.{ℕ, ◌^◌, Bool, true, cond, not, ◌&&◌, List, [], ◌∷◌, ◌==◌, nat_lt}
+use Rattle.std.specs.List.{list_any}
 use Rattle.clip.specs.declared.pair.Pair.{Pair}
 
 -- the clock from which the units of a client are hidden; 0 without a pair
@@ -13,8 +14,7 @@ in_range p = nat_lt p.client (2 ^ 53) && nat_lt p.clock (2 ^ 31)
 
 -- some pair is of this client
 abbrev pub listed : ℕ → List Pair → Bool
-listed c [] = false
-listed c (p ∷ ps) = cond (p.client == c) true (listed c ps)
+listed c ps = list_any (λ p. p.client == c) ps
 
 -- each pair is in range, and no client has two
 abbrev pub sound : List Pair → Bool

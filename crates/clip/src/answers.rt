@@ -4,6 +4,7 @@ ghost use Rattle.clip.specs.ClippedFacts.{clipped_lawful, clipped_settled, clipp
 ghost use Rattle.clip.specs.Made.{limit_of};
 
 use crate::clip::{Clip, raised};
+use crate::walk::Way;
 use block::fault::Fault;
 use block::ids::Id;
 use block::slot::{Slot, Value};
@@ -27,24 +28,16 @@ impl<R: Reader> Reader for Clip<R> {
     ghost faithful = { λ s. clipped_faithful (limit_of s.pairs) (R.Reader.meaning s.below) (R.Reader.stretch s.below) (R.Reader.settled s.below) (R.Reader.faithful s.below) };
 
     fn first(&self, list: u32) -> Result<Option<R::Place>, Fault> {
-        match self.below.first(list) {
-            Ok(start) => Ok(self.on(start)),
-            Err(e) => Err(raised(e)),
-        }
+        let start = self.below.first(list).map_err(raised)?;
+        Ok(self.on(start, Way::Right))
     }
 
     fn right(&self, place: R::Place) -> Option<R::Place> {
-        if !self.shows(place) {
-            return None;
-        }
-        self.on(self.below.right(place))
+        self.past(place, Way::Right)
     }
 
     fn left(&self, place: R::Place) -> Option<R::Place> {
-        if !self.shows(place) {
-            return None;
-        }
-        self.back(self.below.left(place))
+        self.past(place, Way::Left)
     }
 
     fn describe(&self, place: R::Place) -> Option<Description> {
@@ -52,12 +45,9 @@ impl<R: Reader> Reader for Clip<R> {
     }
 
     fn find(&self, id: Id) -> Option<(R::Place, u32)> {
-        let found = self.below.find(id);
-        if id.clock < self.pairs.limit(id.client) {
-            found
-        } else {
-            None
-        }
+        self.below
+            .find(id)
+            .filter(|_| id.clock < self.pairs.limit(id.client))
     }
 
     // From the limit on every clock of the client is hidden, and the run found below begins at the
@@ -66,10 +56,9 @@ impl<R: Reader> Reader for Clip<R> {
         if self.pairs.limit(client) <= clock {
             return None;
         }
-        let Some(place) = self.below.nearest(client, clock) else {
-            return None;
-        };
-        if self.shows(place) { Some(place) } else { None }
+        self.below
+            .nearest(client, clock)
+            .filter(|place| self.shows(*place))
     }
 
     fn known(&self, client: u64) -> u32 {
@@ -81,10 +70,7 @@ impl<R: Reader> Reader for Clip<R> {
     }
 
     fn holder(&self, list: u32) -> Result<Option<Id>, Fault> {
-        match self.below.holder(list) {
-            Ok(holder) => Ok(holder),
-            Err(e) => Err(raised(e)),
-        }
+        self.below.holder(list).map_err(raised)
     }
 
     fn read(&self, place: R::Place, offset: u32, slots: &mut [Slot]) -> usize {

@@ -40,10 +40,8 @@ pub(crate) fn raised(e: Fault) -> Fault
     ensures { result ≡ raise e }
 {
     Fault {
-        code: e.code,
-        part: e.part,
-        spot: e.spot,
         clips: e.clips.saturating_add(1),
+        ..e
     }
 }
 
@@ -52,22 +50,13 @@ impl<R: Reader> Clip<R> {
     pub(crate) fn said(&self, place: R::Place) -> Option<Description>
         ensures { Described (clipped (limit_of self.now.pairs) (R.Reader.meaning self.now.below)) (cut (limit_of self.now.pairs) (R.Reader.meaning self.now.below) (R.Reader.stretch self.now.below place)) result }
     {
-        let Some(d) = self.below.describe(place) else {
-            return None;
-        };
-        let limit = self.pairs.limit(d.id.client);
-        if limit <= d.id.clock {
+        let run = self.below.describe(place)?;
+        let limit = self.pairs.limit(run.id.client);
+        if limit <= run.id.clock {
             return None;
         }
-        let len = d.len.min(limit - d.id.clock);
-        Some(Description {
-            id: d.id,
-            len,
-            kind: d.kind,
-            live: d.live,
-            list: d.list,
-            redone: d.redone,
-        })
+        let len = run.len.min(limit - run.id.clock);
+        Some(Description { len, ..run })
     }
 
     // Whether a run is shown, at least in part.
@@ -76,13 +65,12 @@ impl<R: Reader> Clip<R> {
     {
         self.said(place).is_some()
     }
+
     // How many units of a run are shown from an offset on.
     pub(crate) fn left_from(&self, place: R::Place, offset: u32) -> u32
         ensures { result ≡ left_of (limit_of self.now.pairs) (R.Reader.meaning self.now.below) (R.Reader.stretch self.now.below place) offset }
     {
-        match self.said(place) {
-            Some(d) => d.len.saturating_sub(offset),
-            None => 0,
-        }
+        self.said(place)
+            .map_or(0, |run| run.len.saturating_sub(offset))
     }
 }

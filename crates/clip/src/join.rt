@@ -1,4 +1,6 @@
-ghost use Rattle.std.specs.Prelude.{◌≡◌, min};
+ghost use Rattle.std.specs.Prelude.{◌≡◌, ◌<◌, true, length, min, [], ◌∷◌, ◌++◌};
+ghost use Rattle.clip.specs.Pairing.{sound};
+ghost use Rattle.clip.specs.Made.{pairs_of};
 ghost use Rattle.clip.specs.Joined.{Joined, OneClip};
 
 use crate::clip::Clip;
@@ -6,40 +8,53 @@ use crate::made::is_listed;
 use crate::pair::Pair;
 use crate::pairs::Pairs;
 
-// A pair with the lesser of its clock and another.
-fn lowered(p: Pair, clock: u32) -> Pair
-    ensures { result ≡ record { client = p.client; clock = min p.clock clock } }
-{
-    Pair {
-        client: p.client,
-        clock: p.clock.min(clock),
+impl Pair {
+    // The pair with the lesser of its clock and another.
+    fn lowered(self, clock: u32) -> Pair
+        ensures { result ≡ record { client = self.client; clock = min self.clock clock } }
+    {
+        Pair {
+            clock: self.clock.min(clock),
+            ..self
+        }
     }
 }
 
 impl Pairs {
+    // A table of no pairs.
+    fn empty() -> Pairs
+        ensures { pairs_of result ≡ [] }
+    {
+        Pairs {
+            pairs: [Pair::default(); 64],
+            count: 0,
+        }
+    }
+
+    // One pair more.
+    fn push(&mut self, pair: Pair)
+        requires room { length (pairs_of self.old) < 64 }
+        requires good { sound (pairs_of self.old ++ pair ∷ []) ≡ true }
+        ensures { pairs_of self.new ≡ pairs_of self.old ++ pair ∷ [] }
+    {
+        self.pairs[self.count] = pair;
+        self.count += 1;
+    }
+
     // Two tables as one, whose clip shows what the two clips show as a pile. A client that either
     // lacks is hidden whole, so no more pairs are left than one table has.
     pub fn join(self, other: Pairs) -> Pairs
         ensures joined { Joined self other result }
         ensures pile { OneClip }
     {
-        let mine = &self.pairs[..self.count as usize];
-        let theirs = &other.pairs[..other.count as usize];
-        let mut all = [Pair {
-            client: 0,
-            clock: 0,
-        }; 64];
-        let mut count = 0usize;
-        for p in mine {
+        let theirs = other.as_slice();
+        let mut both = Pairs::empty();
+        for p in self.as_slice() {
             if is_listed(theirs, p.client) {
-                all[count] = lowered(*p, other.limit(p.client));
-                count += 1;
+                both.push(p.lowered(other.limit(p.client)));
             }
         }
-        Pairs {
-            pairs: all,
-            count: count as u32,
-        }
+        both
     }
 }
 

@@ -1,26 +1,24 @@
 ghost use Rattle.std.specs.Prelude.{◌≡◌};
-ghost use Rattle.clip.specs.Pairing.{limit_in};
-ghost use Rattle.clip.specs.Made.{limit_of};
+ghost use Rattle.clip.specs.Made.{pairs_of, limit_of};
 
 use crate::pair::Pair;
 use crate::pairs::Pairs;
 
-fn limit_in(pairs: &[Pair], client: u64) -> u32
-    ensures { result ≡ limit_in pairs.now client }
-{
-    for p in pairs {
-        if p.client == client {
-            return p.clock;
-        }
-    }
-    0
-}
-
 impl Pairs {
+    // The pairs of the table.
+    pub(crate) fn as_slice(&self) -> &[Pair]
+        ensures { result.now ≡ pairs_of self.now }
+    {
+        &self.pairs[..self.count]
+    }
+
     // The clock from which a client's units are hidden; 0 for a client without a pair.
     pub fn limit(&self, client: u64) -> u32
         ensures { result ≡ limit_of self.now client }
     {
-        limit_in(&self.pairs[..self.count as usize], client)
+        self.as_slice()
+            .iter()
+            .find(|p| p.client == client)
+            .map_or(0, |p| p.clock)
     }
 }

@@ -7,33 +7,32 @@ use crate::pairs::Pairs;
 use block::fault::{Code, Fault, Part, Spot};
 use block::ids::is_client;
 
-fn is_in_range(p: Pair) -> bool
-    ensures { result ≡ in_range p }
-{
-    is_client(p.client) && p.clock < 1 << 31
+impl Pair {
+    // Whether the client and the clock are in range.
+    fn is_in_range(self) -> bool
+        ensures { result ≡ in_range self }
+    {
+        is_client(self.client) && self.clock < 1 << 31
+    }
 }
 
+// Whether some pair is of this client.
 pub(crate) fn is_listed(pairs: &[Pair], client: u64) -> bool
     ensures { result ≡ listed client pairs.now }
 {
-    for p in pairs {
-        if p.client == client {
-            return true;
-        }
-    }
-    false
+    pairs.iter().any(|p| p.client == client)
 }
 
+// Whether each pair is in range, and no client has two.
 fn is_sound(pairs: &[Pair]) -> bool
     ensures { result ≡ sound pairs.now }
 {
-    for i in 0..pairs.len() {
-        if !is_in_range(pairs[i]) {
+    let mut rest = pairs;
+    while let Some((p, after)) = rest.split_first() {
+        if !p.is_in_range() || is_listed(after, p.client) {
             return false;
         }
-        if is_listed(&pairs[i + 1..], pairs[i].client) {
-            return false;
-        }
+        rest = after;
     }
     true
 }
@@ -45,31 +44,14 @@ impl Pairs {
         ensures { Made pairs.now result }
     {
         if !is_sound(pairs) {
-            return Err(Fault {
-                code: Code::OutOfRange,
-                part: Part::Clip,
-                spot: Spot::Nowhere,
-                clips: 0,
-            });
+            return Err(Fault::new(Part::Clip, Code::OutOfRange, Spot::Nowhere));
         }
         if pairs.len() > 64 {
-            return Err(Fault {
-                code: Code::LimitPassed,
-                part: Part::Clip,
-                spot: Spot::Nowhere,
-                clips: 0,
-            });
+            return Err(Fault::new(Part::Clip, Code::LimitPassed, Spot::Nowhere));
         }
-        let mut all = [Pair {
-            client: 0,
-            clock: 0,
-        }; 64];
-        for (i, p) in pairs.iter().enumerate() {
-            all[i] = *p;
-        }
-        Ok(Pairs {
-            pairs: all,
-            count: pairs.len() as u32,
-        })
+        let count = pairs.len();
+        let mut all = [Pair::default(); 64];
+        all[..count].copy_from_slice(pairs);
+        Ok(Pairs { pairs: all, count })
     }
 }

@@ -8,10 +8,7 @@ fn pair(client: u64, clock: u32) -> Pair {
 }
 
 fn refusal(r: Result<Pairs, Fault>) -> Option<Code> {
-    match r {
-        Ok(_) => None,
-        Err(e) => Some(e.code),
-    }
+    r.err().map(|e| e.code)
 }
 
 #[test]
@@ -37,10 +34,7 @@ fn pairs_in_range_are_taken(rt: HostRuntime) {
 
 #[test]
 fn too_many_pairs_come_after_a_bad_one(rt: HostRuntime) -> Result<(), Fail> {
-    let mut many = [pair(0, 1); 65];
-    for i in 0..65usize {
-        many[i] = pair(i as u64, 1);
-    }
+    let mut many: [Pair; 65] = std::array::from_fn(|i| pair(i as u64, 1));
     assert_eq!(rt; refusal(Pairs::new(&many[..64])), None);
     assert_eq!(rt; refusal(Pairs::new(&many)), Some(Code::LimitPassed));
     many[64] = pair(3, 1);

@@ -8,20 +8,19 @@ use store::kinds::{entries_of, kind_of};
 use store::records::{RunRecord, View};
 use utf8::text::count_basic;
 
+// The record has the raw byte, since a damaged store holds any.
 fn is_text(run: RunRecord) -> bool
     ensures { result ≡ is_text run }
 {
-    run.kind == Kind::Text.number()
+    run.kind == u8::from(Kind::Text)
 }
 
 // Whether the bytes of a run are a text of as many characters as it has units, none above U+FFFF.
 fn spells(view: &View<'_>, run: RunRecord) -> bool
     ensures { result ≡ spells (held view.now) run }
 {
-    match count_basic(view.bytes_of(view.entry(run.entry as usize))) {
-        Ok(count) => count == run.len as usize,
-        Err(_) => false,
-    }
+    count_basic(view.bytes_of(view.entry(run.entry as usize))).is_ok_and(|count| count
+        == run.len as usize)
 }
 
 fn is_filled(view: &View<'_>, run: RunRecord) -> bool
@@ -35,10 +34,5 @@ fn is_filled(view: &View<'_>, run: RunRecord) -> bool
 pub fn first_run(view: &View<'_>) -> Option<usize>
     ensures { result ≡ first_bad (run_filled_at (held view.now)) (length (held view.now).runs) }
 {
-    for (i, run) in view.runs.iter().enumerate() {
-        if !is_filled(view, *run) {
-            return Some(i);
-        }
-    }
-    None
+    view.runs.iter().position(|run| !is_filled(view, *run))
 }

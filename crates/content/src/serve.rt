@@ -9,62 +9,46 @@ use store::records::{EntryRecord, RunRecord, View};
 fn has_entry(run: RunRecord, e: usize) -> bool
     ensures { result ≡ has_entry run e }
 {
-    run.entry as usize <= e
-        && e < run.entry as usize + entries_of(kind_of(run.kind), run.len) as usize
+    let first = run.entry as usize;
+    let end = first + entries_of(kind_of(run.kind), run.len) as usize;
+    (first..end).contains(&e)
 }
 
 // How many runs have this entry.
 fn runs_served(view: &View<'_>, e: usize) -> usize
     ensures { result ≡ passing (has_entry_at (held view.now) e) (length (held view.now).runs) }
 {
-    let mut count = 0;
-    for run in view.runs {
-        if has_entry(*run, e) {
-            count += 1;
-        }
-    }
-    count
+    view.runs.iter().filter(|run| has_entry(**run, e)).count()
 }
 
 // The first entry that does not serve just one run.
 pub fn first_entry(view: &View<'_>) -> Option<usize>
     ensures { result ≡ first_bad (entry_serves_at (held view.now)) (length (held view.now).entries) }
 {
-    for e in 0..view.entries.len() {
-        if runs_served(view, e) != 1 {
-            return Some(e);
-        }
-    }
-    None
+    (0..view.entries.len()).find(|&e| runs_served(view, e) != 1)
 }
 
 fn has_byte(entry: EntryRecord, b: usize) -> bool
     ensures { result ≡ has_byte entry b }
 {
-    entry.start as usize <= b && b < entry.start as usize + entry.len as usize
+    let start = entry.start as usize;
+    let end = start + entry.len as usize;
+    (start..end).contains(&b)
 }
 
 // How many entries have this byte.
 fn entries_served(view: &View<'_>, b: usize) -> usize
     ensures { result ≡ passing (has_byte_at (held view.now) b) (length (held view.now).entries) }
 {
-    let mut count = 0;
-    for entry in view.entries {
-        if has_byte(*entry, b) {
-            count += 1;
-        }
-    }
-    count
+    view.entries
+        .iter()
+        .filter(|entry| has_byte(**entry, b))
+        .count()
 }
 
 // The first byte that does not serve just one entry.
 pub fn first_byte(view: &View<'_>) -> Option<usize>
     ensures { result ≡ first_bad (byte_serves_at (held view.now)) (length (held view.now).bytes) }
 {
-    for b in 0..view.bytes.len() {
-        if entries_served(view, b) != 1 {
-            return Some(b);
-        }
-    }
-    None
+    (0..view.bytes.len()).find(|&b| entries_served(view, b) != 1)
 }

@@ -1,5 +1,5 @@
 -- Where no more records are in use than a document may have, their numbers fit 32 bits.
-use Rattle.std.proofs.Common.{◌≡◌, ℕ, ◌<◌, ◌≤◌, Bool, true, leb, length, Some, sym, arith}
+use Rattle.std.proofs.Common.{◌≡◌, ℕ, ◌^◌, ◌<◌, ◌≤◌, Bool, true, leb, length, Some, Option, sym, ◌∙◌, arith}
 use Rattle.std.proofs.lemmas.Bool.{and_parts, leb-true}
 use Rattle.store.specs.First.{first_bad}
 use Rattle.store.specs.FirstFacts.{found_within}
@@ -27,3 +27,7 @@ few s h =
 
 pub found_below : (p : ℕ → Bool) (n i : ℕ) → Some i ≡ first_bad p n → n ≤ 65536 → i < 65536
 found_below p n i e h = let lt = found_within p n i (sym e) in omega (arith, lt)
+
+-- so does the number of a record that was found
+pub found_small : (p : ℕ → Bool) (n : ℕ) (found : Option ℕ) → found ≡ first_bad p n → n ≤ 65536 → (i : ℕ) → found ≡ Some i → i < 2 ^ 32
+found_small p n found e le i h = let lt = found_below p n i (sym h ∙ e) le in omega (arith, lt)

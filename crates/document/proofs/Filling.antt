@@ -1,19 +1,14 @@
 -- What is known of a run that has values.
-use Rattle.std.proofs.Common.{◌≡◌, ℕ, ◌+◌, ◌-◌, ◌<◌, ◌≤◌, true, cond, List, length, sym, ap, subst, inl, inr, arith}
+use Rattle.std.proofs.Common.{◌≡◌, ℕ, ◌+◌, ◌-◌, ◌<◌, ◌≤◌, true, cond, length, ap, inl, inr, arith}
 use Rattle.std.proofs.lemmas.List.{get_or_past}
 use Rattle.std.proofs.lemmas.Bool.{cases_Bool, cases_lt, cond-true, cond-false}
 use Rattle.block.specs.Kinds.{is_counted}
-use Rattle.block.specs.declared.slot.Slot.{Slot}
 use Rattle.store.specs.declared.records.RunRecord.{RunRecord}
 use Rattle.store.specs.Kinds.{kind_of}
 use Rattle.store.specs.Records.{Store, run_at, no_run}
-use Rattle.document.specs.Slots.{count_from, Filled}
-use Rattle.document.proofs.Fills.{none_filled}
+use Rattle.document.specs.Slots.{count_from}
 
 module _ (d : Store) (p off n room : ℕ) (full : n ≡ count_from (run_at d p) off room) where
-  pub has_room : n ≤ room
-  has_room = omega (arith, full)
-
   module _ (some : n ≡ 0 → ⊥) where
     pub is_valued : is_counted (kind_of (run_at d p).kind) ≡ true
     is_valued =
@@ -34,6 +29,3 @@ module _ (d : Store) (p off n room : ℕ) (full : n ≡ count_from (run_at d p) 
           | inl lt ↦ lt
           | inr ge ↦ (let e : (run_at d p).len ≡ 0 = ap (λ (r : RunRecord). r.len) (get_or_past d.runs p no_run ge) in let h = in_units in absurd (some (omega (arith, e, h))))
         ]
-
-pub nothing_filled : (f : ℕ → Slot) (n : ℕ) (xs : List Slot) → n ≡ 0 → Filled f n xs xs
-nothing_filled f n xs e = subst (λ (m : ℕ). Filled f m xs xs) (sym e) (none_filled f xs)

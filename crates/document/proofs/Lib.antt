@@ -1,6 +1,7 @@
 pub mod Few
 pub mod Filling
 pub mod Fills
+pub mod Least
 pub mod Nearest
 pub mod Readings
 pub mod Shown

@@ -4,6 +4,7 @@ use Rattle.std.proofs.lemmas.List.{drop-drop, take-take, drop-take}
 use Rattle.std.proofs.lemmas.Bool.{false≢true, and_parts, leb-true, le-leb, lt-ltb, eqb-true, cond-true, cond-false, not-true}
 use Rattle.block.specs.Kinds.{is_counted}
 use Rattle.block.specs.Units.{bytes}
+use Rattle.block.specs.Values.{part_of}
 use Rattle.block.specs.declared.kind.Kind.{Kind}
 use Rattle.block.specs.declared.kind.Kind.TheVariants as kinds
 use Rattle.store.specs.declared.records.RunRecord.{RunRecord}
@@ -20,13 +21,13 @@ use Rattle.utf8.specs.declared.planes.Planes.TheVariants.{All}
 use Rattle.utf8.proofs.Tables.{sound}
 use Rattle.document.specs.Meaning.{list_held, worth_of}
 use Rattle.document.specs.PassingFacts.{Passing}
-use Rattle.document.specs.Slots.{shown_content, shown_in, entry_slot, place_of, slot_of}
+use Rattle.document.specs.Slots.{shown_in, entry_slot, place_of, slot_of}
 use Rattle.document.specs.SoundFacts.{fits, agrees}
 use Rattle.document.proofs.Texts.{spelled_text, lies_at, bytes_at}
 
 -- a part of a part
-part_of : (xs : List ℕ) (start len p m : ℕ) → p + m ≤ len → take m (drop (start + p) xs) ≡ take m (drop p (take len (drop start xs)))
-part_of xs start len p m h =
+sub_part : (xs : List ℕ) (start len p m : ℕ) → p + m ≤ len → take m (drop (start + p) xs) ≡ take m (drop p (take len (drop start xs)))
+sub_part xs start len p m h =
     let e : p + (len - p) ≡ len = omega arith in
     ap (take m) (sym (drop-drop p start xs))
     ∙ sym (take-take m (len - p) (drop p (drop start xs)) (omega arith))
@@ -40,30 +41,30 @@ none_pass p (suc n) h = cond-false _ _ _ (not-true (p n) (h n (omega arith))) �
 
 -- the number of a kind
 chosen_list : (b0 b1 b2 b3 b4 b5 b6 b7 b8 b9 : Bool) → cond b0 kinds.Gc (cond b1 kinds.Deleted (cond b2 kinds.Json (cond b3 kinds.Binary (cond b4 kinds.Text (cond b5 kinds.Embed (cond b6 kinds.Format (cond b7 kinds.List (cond b8 kinds.Any (cond b9 kinds.Doc kinds.Skip))))))))) ≡ kinds.List → b7 ≡ true
-chosen_list true b1 b2 b3 b4 b5 b6 b7 b8 b9 h = let z : ◌≡◌ {A = ℕ} 0 1 = cc in absurd (omega arith)
-chosen_list false true b2 b3 b4 b5 b6 b7 b8 b9 h = let z : ◌≡◌ {A = ℕ} 0 1 = cc in absurd (omega arith)
-chosen_list false false true b3 b4 b5 b6 b7 b8 b9 h = let z : ◌≡◌ {A = ℕ} 0 1 = cc in absurd (omega arith)
-chosen_list false false false true b4 b5 b6 b7 b8 b9 h = let z : ◌≡◌ {A = ℕ} 0 1 = cc in absurd (omega arith)
-chosen_list false false false false true b5 b6 b7 b8 b9 h = let z : ◌≡◌ {A = ℕ} 0 1 = cc in absurd (omega arith)
-chosen_list false false false false false true b6 b7 b8 b9 h = let z : ◌≡◌ {A = ℕ} 0 1 = cc in absurd (omega arith)
-chosen_list false false false false false false true b7 b8 b9 h = let z : ◌≡◌ {A = ℕ} 0 1 = cc in absurd (omega arith)
+chosen_list true b1 b2 b3 b4 b5 b6 b7 b8 b9 h = cc
+chosen_list false true b2 b3 b4 b5 b6 b7 b8 b9 h = cc
+chosen_list false false true b3 b4 b5 b6 b7 b8 b9 h = cc
+chosen_list false false false true b4 b5 b6 b7 b8 b9 h = cc
+chosen_list false false false false true b5 b6 b7 b8 b9 h = cc
+chosen_list false false false false false true b6 b7 b8 b9 h = cc
+chosen_list false false false false false false true b7 b8 b9 h = cc
 chosen_list false false false false false false false true b8 b9 h = refl
-chosen_list false false false false false false false false true b9 h = let z : ◌≡◌ {A = ℕ} 0 1 = cc in absurd (omega arith)
-chosen_list false false false false false false false false false true h = let z : ◌≡◌ {A = ℕ} 0 1 = cc in absurd (omega arith)
-chosen_list false false false false false false false false false false h = let z : ◌≡◌ {A = ℕ} 0 1 = cc in absurd (omega arith)
+chosen_list false false false false false false false false true b9 h = cc
+chosen_list false false false false false false false false false true h = cc
+chosen_list false false false false false false false false false false h = cc
 
 chosen_text : (b0 b1 b2 b3 b4 b5 b6 b7 b8 b9 : Bool) → cond b0 kinds.Gc (cond b1 kinds.Deleted (cond b2 kinds.Json (cond b3 kinds.Binary (cond b4 kinds.Text (cond b5 kinds.Embed (cond b6 kinds.Format (cond b7 kinds.List (cond b8 kinds.Any (cond b9 kinds.Doc kinds.Skip))))))))) ≡ kinds.Text → b4 ≡ true
-chosen_text true b1 b2 b3 b4 b5 b6 b7 b8 b9 h = let z : ◌≡◌ {A = ℕ} 0 1 = cc in absurd (omega arith)
-chosen_text false true b2 b3 b4 b5 b6 b7 b8 b9 h = let z : ◌≡◌ {A = ℕ} 0 1 = cc in absurd (omega arith)
-chosen_text false false true b3 b4 b5 b6 b7 b8 b9 h = let z : ◌≡◌ {A = ℕ} 0 1 = cc in absurd (omega arith)
-chosen_text false false false true b4 b5 b6 b7 b8 b9 h = let z : ◌≡◌ {A = ℕ} 0 1 = cc in absurd (omega arith)
+chosen_text true b1 b2 b3 b4 b5 b6 b7 b8 b9 h = cc
+chosen_text false true b2 b3 b4 b5 b6 b7 b8 b9 h = cc
+chosen_text false false true b3 b4 b5 b6 b7 b8 b9 h = cc
+chosen_text false false false true b4 b5 b6 b7 b8 b9 h = cc
 chosen_text false false false false true b5 b6 b7 b8 b9 h = refl
-chosen_text false false false false false true b6 b7 b8 b9 h = let z : ◌≡◌ {A = ℕ} 0 1 = cc in absurd (omega arith)
-chosen_text false false false false false false true b7 b8 b9 h = let z : ◌≡◌ {A = ℕ} 0 1 = cc in absurd (omega arith)
-chosen_text false false false false false false false true b8 b9 h = let z : ◌≡◌ {A = ℕ} 0 1 = cc in absurd (omega arith)
-chosen_text false false false false false false false false true b9 h = let z : ◌≡◌ {A = ℕ} 0 1 = cc in absurd (omega arith)
-chosen_text false false false false false false false false false true h = let z : ◌≡◌ {A = ℕ} 0 1 = cc in absurd (omega arith)
-chosen_text false false false false false false false false false false h = let z : ◌≡◌ {A = ℕ} 0 1 = cc in absurd (omega arith)
+chosen_text false false false false false true b6 b7 b8 b9 h = cc
+chosen_text false false false false false false true b7 b8 b9 h = cc
+chosen_text false false false false false false false true b8 b9 h = cc
+chosen_text false false false false false false false false true b9 h = cc
+chosen_text false false false false false false false false false true h = cc
+chosen_text false false false false false false false false false false h = cc
 
 list_number : (k : ℕ) → kind_of k ≡ kinds.List → eqb k 7 ≡ true
 list_number k e = chosen_list (eqb k 0) (eqb k 1) (eqb k 2) (eqb k 3) (eqb k 4) (eqb k 5) (eqb k 6) (eqb k 7) (eqb k 8) (eqb k 9) e
@@ -84,7 +85,7 @@ module _ (d : Store) (ps : Passing d) where
   inside e lt = leb-true _ _ (ps.entry_fits e lt)
 
   -- the slot of an entry shows its bytes
-  shown_entry : (kind : Kind) (e : ℕ) → e < length d.entries → shown_in d (entry_slot d kind e) ≡ shown_content kind (bytes_of d (entry_at d e))
+  shown_entry : (kind : Kind) (e : ℕ) → e < length d.entries → shown_in d (entry_slot d kind e) ≡ part_of kind (bytes_of d (entry_at d e))
   shown_entry kind e lt = cond-true _ _ _ (le-leb _ _ (inside e lt))
 
   module _ (p : ℕ) (lt : p < length d.runs) where
@@ -112,13 +113,13 @@ module _ (d : Store) (ps : Passing d) where
         let one = alone kind e s in
         (omega (arith, one, h), omega (arith, a, b, one, h))
 
-    unit_shown : (kind : Kind) (j : ℕ) → kind_of r.kind ≡ kind → entries_of kind r.len ≡ r.len → j < r.len → shown_in d (entry_slot d kind (r.entry + j)) ≡ shown_content kind (bytes_of d (entry_at d (r.entry + j)))
+    unit_shown : (kind : Kind) (j : ℕ) → kind_of r.kind ≡ kind → entries_of kind r.len ≡ r.len → j < r.len → shown_in d (entry_slot d kind (r.entry + j)) ≡ part_of kind (bytes_of d (entry_at d (r.entry + j)))
     unit_shown kind j e f h = shown_entry kind (r.entry + j) (entry_of_unit kind j e f h)
 
-    alone_shown : (kind : Kind) (j : ℕ) → kind_of r.kind ≡ kind → is_single kind ≡ true → entries_of kind r.len ≡ 1 → j < r.len → shown_in d (entry_slot d kind (r.entry + j)) ≡ shown_content kind (bytes_of d (entry_at d r.entry))
+    alone_shown : (kind : Kind) (j : ℕ) → kind_of r.kind ≡ kind → is_single kind ≡ true → entries_of kind r.len ≡ 1 → j < r.len → shown_in d (entry_slot d kind (r.entry + j)) ≡ part_of kind (bytes_of d (entry_at d r.entry))
     alone_shown kind j e s f h =
         let a = entry_alone kind j e s f h in
-        shown_entry kind (r.entry + j) a.1 ∙ ap (λ (n : ℕ). shown_content kind (bytes_of d (entry_at d n))) (ap (λ (n : ℕ). r.entry + n) a.0 ∙ add-zero r.entry)
+        shown_entry kind (r.entry + j) a.1 ∙ ap (λ (n : ℕ). part_of kind (bytes_of d (entry_at d n))) (ap (λ (n : ℕ). r.entry + n) a.0 ∙ add-zero r.entry)
 
     holds_just_one : kind_of r.kind ≡ kinds.List → passing (held_by_at d r.id) (length d.lists) ≡ 1
     holds_just_one e = eqb-true _ _ (sym (cond-true (is_list r) (eqb (passing (held_by_at d r.id) (length d.lists)) 1) true (list_number r.kind e)) ∙ (agrees d ps p lt).holds)
@@ -161,7 +162,7 @@ module _ (d : Store) (ps : Passing d) where
         let w = t.within in
         let fits_in : ((entry_at d r.entry).start + place_of cs j) + length (get_or cs j []) ≤ length d.bytes = omega (arith, a, b, w) in
         cond-true _ _ _ (le-leb _ _ fits_in)
-        ∙ ap (λ (xs : List ℕ). Some (kinds.Text, bytes xs)) (part_of d.bytes (entry_at d r.entry).start (entry_at d r.entry).len (place_of cs j) (length (get_or cs j [])) (omega (arith, a, b)) ∙ bytes_at utf8_char (sound All) cs bs j l)
+        ∙ ap (λ (xs : List ℕ). Some (kinds.Text, bytes xs)) (sub_part d.bytes (entry_at d r.entry).start (entry_at d r.entry).len (place_of cs j) (length (get_or cs j [])) (omega (arith, a, b)) ∙ bytes_at utf8_char (sound All) cs bs j l)
 
     -- the slot of a unit of a counted kind shows its value
     pub shown_unit : (kind : Kind) (j : ℕ) → kind_of r.kind ≡ kind → is_counted kind ≡ true → j < r.len → shown_in d (slot_of d kind r j) ≡ Some (kind, worth_of d kind r j)

@@ -1,4 +1,5 @@
 -- The characters of an accepted text, and where each begins.
+use Rattle.std.specs.Option.{MatchOption}
 use Rattle.std.proofs.Common.{◌≡◌, ℕ, zero, suc, ◌+◌, ◌-◌, ◌<◌, ◌≤◌, true, List, [], ◌∷◌, ◌++◌, length, get_or, take, drop, Some, None, Ok, Err, Option, Result, sym, refl, ap, ◌∙◌, subst, inl, inr, ⊎_elim, arith, length-append, take-add}
 use Rattle.std.proofs.lemmas.List.{take_all, take_at, drop_at, drop-drop, length-drop, length-take-le}
 use Rattle.std.proofs.lemmas.Bool.{false≢true, cases_eq, eq-eqb, ne_eqb, cond-true, cond-false, cases_lt, lt-ltb, le-ltb, or_cases, or_left, or_right}
@@ -182,9 +183,14 @@ unfolding located
 place_found t bs k at h =
     elim (cases_lt k (length (characters t bs))) [
       | inl lt ↦ (let e : Some at ≡ Some (place_of (characters t bs) k, length (get_or (characters t bs) k [])) = h ∙ cond-true _ _ _ (lt-ltb _ _ lt) in let f : at ≡ (place_of (characters t bs) k, length (get_or (characters t bs) k [])) = cc in ap (λ (x : ℕ × ℕ). x.0) f)
-      | inr ge ↦ (let e : ◌≡◌ {A = Option (ℕ × ℕ)} (Some at) None = h ∙ cond-false _ _ _ (le-ltb _ _ ge) in let z : ◌≡◌ {A = ℕ} 0 1 = cc in absurd (omega arith))
+      | inr ge ↦ (let e : ◌≡◌ {A = Option (ℕ × ℕ)} (Some at) None = h ∙ cond-false _ _ _ (le-ltb _ _ ge) in cc)
     ]
 
 pub place_missing : (t : List Row) (bs : List ℕ) (k : ℕ) → None ≡ located t bs k → k < length (characters t bs) → ⊥
 unfolding located
 place_missing t bs k h lt = let e : ◌≡◌ {A = Option (ℕ × ℕ)} None (Some _) = h ∙ cond-true _ _ _ (lt-ltb _ _ lt) in let z : ◌≡◌ {A = ℕ} 0 1 = cc in omega arith
+
+-- the place that a search for character k gives
+pub place_given : (t : List Row) (bs : List ℕ) (k : ℕ) (o : Option (ℕ × ℕ)) (r : ℕ) {Gives : ℕ × ℕ → Type 0} → o ≡ located t bs k → MatchOption o (r ≡ 0) Gives → ((at : ℕ × ℕ) → Gives at → r ≡ at.0) → k < length (characters t bs) → r ≡ place_of (characters t bs) k
+place_given t bs k None r h m gives lt = absurd (place_missing t bs k h lt)
+place_given t bs k (Some at) r h m gives lt = gives at m ∙ place_found t bs k at h

@@ -9,7 +9,7 @@ use Rattle.utf8.specs.Texts.{Spelled}
 use Rattle.utf8.specs.declared.planes.Planes.TheVariants.{All}
 use Rattle.utf8.proofs.Tables.{sound}
 use Rattle.document.specs.Slots.{place_of, text_slot, Filled}
-use Rattle.document.proofs.Fills.{none_filled, one_filled}
+use Rattle.document.proofs.Fills.{none_written, one_written}
 use Rattle.document.proofs.Texts.{lies_at, measured_at}
 
 abbrev pub Walked : List ℕ → ℕ → ℕ → ℕ → ℕ → ℕ → List Slot → List Slot → Type 0
@@ -24,7 +24,7 @@ pub record Here (bs : List ℕ) (from k at len : ℕ) : Type 0 where
 
 module _ (bs : List ℕ) (start from n : ℕ) (text : Spelled utf8_char (characters utf8_char bs) bs) (enough : from + n ≤ length (characters utf8_char bs)) where
   pub begun : (at : ℕ) (xs : List Slot) → (from < length (characters utf8_char bs) → at ≡ place_of (characters utf8_char bs) from) → Walked bs start from n 0 at xs xs
-  begun at xs h = (none_filled _ xs, (λ lt. h (omega (arith, enough)) ∙ ap (place_of (characters utf8_char bs)) (sym (add-zero from))))
+  begun at xs h = (none_written _ xs, (λ lt. h (omega (arith, enough)) ∙ ap (place_of (characters utf8_char bs)) (sym (add-zero from))))
 
   pub here : (k at len : ℕ) → k < n → (k < n → at ≡ place_of (characters utf8_char bs) (from + k)) → ((m : ℕ) → character_at utf8_char bs at ≡ Ok m → len ≡ m) → Here bs from k at len
   here k at len lt p m =
@@ -39,4 +39,4 @@ module _ (bs : List ℕ) (start from n : ℕ) (text : Spelled utf8_char (charact
   stepped k at len xs ys lt w h =
       let e : Content kinds.Text (start + at) len ≡ text_slot start (characters utf8_char bs) (from + k) = ap (λ (p : ℕ). Content kinds.Text (start + p) len) h.place ∙ ap (λ (q : ℕ). Content kinds.Text (start + place_of (characters utf8_char bs) (from + k)) q) h.long in
       let f : suc (from + k) ≡ from + (k + 1) = omega arith in
-      (one_filled _ k xs ys _ w.0 lt e, (λ _. h.next ∙ ap (place_of (characters utf8_char bs)) f))
+      (one_written _ k xs ys _ w.0 lt e, (λ _. h.next ∙ ap (place_of (characters utf8_char bs)) f))

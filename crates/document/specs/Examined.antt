@@ -1,5 +1,6 @@
 -- Examination: the passes in their order, and the first record that fails.
-use Rattle.std.specs.Prelude.{ℕ, Bool, cond, not, length, is_some, Some, None, Option}
+use Rattle.std.specs.Prelude.{ℕ, Bool, cond, not, length, is_some, Some, None, Ok, Err, Option, Result}
+use Rattle.std.specs.Option.{option_or}
 use Rattle.block.specs.declared.fault.Code.{Code}
 use Rattle.block.specs.declared.fault.Code.TheVariants.{OutOfRange, Overlap, Disagreement, Content}
 use Rattle.block.specs.declared.fault.Fault.{Fault}
@@ -18,11 +19,6 @@ use Rattle.content.specs.Content.{run_filled_at, entry_serves_at, byte_serves_at
 abbrev pub report : Code → (ℕ → Spot) → Option ℕ → Option Fault → Option Fault
 report code spot None rest = rest
 report code spot (Some i) rest = Some (fault_at code (spot i))
-
--- the first fault, if any
-abbrev pub either : Option Fault → Option Fault → Option Fault
-either (Some f) rest = Some f
-either None rest = rest
 
 -- more records or bytes in use than a document may have
 abbrev pub crowded : Store → Option Fault
@@ -56,8 +52,13 @@ misfilled s =
 
 -- the first failing record of the first failing pass
 unfoldable pub examined : Store → Option Fault
-examined s = either (crowded s) (either (out_of_range s) (either (overlapping s) (either (disagreeing s) (misfilled s))))
+examined s = option_or (crowded s) (option_or (out_of_range s) (option_or (overlapping s) (option_or (disagreeing s) (misfilled s))))
 
 -- no fault is found
 unfoldable pub accepts : Store → Bool
 accepts s = not (is_some (examined s))
+
+-- refused by a fault, if there is one
+abbrev pub unless_fault : Option Fault → Result (Unit {0}) Fault
+unless_fault (Some f) = Err f
+unless_fault None = Ok tt

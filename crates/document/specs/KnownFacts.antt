@@ -1,7 +1,9 @@
 -- The known clock of a client is that of its record, and reaches its last unit.
-use Rattle.std.specs.Prelude.{◌≡◌, ℕ, zero, suc, ◌<◌, ◌≤◌, true, false, cond, ◌&&◌, List, [], ◌∷◌, length, ◌==◌, nat_lt, slice_index_or}
+use Rattle.std.specs.Prelude.{◌≡◌, ℕ, zero, suc, ◌+◌, ◌<◌, ◌≤◌, true, false, cond, ◌&&◌, List, [], ◌∷◌, length, get_or, drop, Option, ◌==◌, nat_lt, slice_index_or, refl}
+use Rattle.std.specs.Option.{option_map, unwrap_or}
 use Rattle.std.proofs.Common.{sym, ap, subst, ◌∙◌, ⊎_elim, arith}
 use Rattle.std.proofs.lemmas.Bool.{cases_Bool, cases_eq, cases_lt, eqb-true, eq-eqb, ltb-true, lt-ltb, cond-true, cond-false, and_parts, and_from}
+use Rattle.std.proofs.lemmas.List.{drop_more, drop_all}
 use Rattle.store.specs.declared.records.ClientRecord.{ClientRecord}
 use Rattle.store.specs.declared.records.RunRecord.{RunRecord}
 use Rattle.store.specs.Clocks.{end_of}
@@ -16,17 +18,37 @@ pub record Recorded (rs : List ClientRecord) (c : ℕ) : Type 0 where
   pub client : (slice_index_or rs at no_client).client ≡ c
   pub known : clock_in rs c ≡ (slice_index_or rs at no_client).known
 
-later_on : (r : ClientRecord) (rs : List ClientRecord) (c : ℕ) → (r.client == c) ≡ false → Recorded rs c → Recorded (r ∷ rs) c
+clock_here : (r : ClientRecord) (rs : List ClientRecord) (c : ℕ) → (r.client == c) ≡ true → clock_in (r ∷ rs) c ≡ r.known
 unfolding clock_in
-later_on r rs c e h = record { at = suc h.at; below = omega (arith, h.below); client = h.client; known = cond-false _ _ _ e ∙ h.known }
+clock_here r rs c e = ap (λ (o : Option ClientRecord). unwrap_or (option_map (λ (r : ClientRecord). r.known) o) 0) (cond-true _ _ _ e)
+
+clock_past : (r : ClientRecord) (rs : List ClientRecord) (c : ℕ) → (r.client == c) ≡ false → clock_in (r ∷ rs) c ≡ clock_in rs c
+unfolding clock_in
+clock_past r rs c e = ap (λ (o : Option ClientRecord). unwrap_or (option_map (λ (r : ClientRecord). r.known) o) 0) (cond-false _ _ _ e)
+
+pub clock_step : (rs : List ClientRecord) (i c : ℕ) → i < length rs → clock_in (drop i rs) c ≡ cond ((get_or rs i no_client).client == c) (get_or rs i no_client).known (clock_in (drop (i + 1) rs) c)
+clock_step rs i c h =
+    let r = get_or rs i no_client in
+    let rest = drop (i + 1) rs in
+    ap (λ (ks : List ClientRecord). clock_in ks c) (drop_more rs i no_client h)
+    ∙ ⊎_elim
+    (λ e. clock_here r rest c e ∙ sym (cond-true (r.client == c) r.known (clock_in rest c) e))
+    (λ e. clock_past r rest c e ∙ sym (cond-false (r.client == c) r.known (clock_in rest c) e))
+    (cases_Bool (r.client == c))
+
+pub clock_end : (rs : List ClientRecord) (i c : ℕ) → length rs ≤ i → clock_in (drop i rs) c ≡ 0
+unfolding clock_in
+clock_end rs i c h = rw (drop_all i rs h) refl
+
+later_on : (r : ClientRecord) (rs : List ClientRecord) (c : ℕ) → (r.client == c) ≡ false → Recorded rs c → Recorded (r ∷ rs) c
+later_on r rs c e h = record { at = suc h.at; below = omega (arith, h.below); client = h.client; known = clock_past r rs c e ∙ h.known }
 
 pub recorded : (rs : List ClientRecord) (c i : ℕ) → i < length rs → (slice_index_or rs i no_client).client ≡ c → Recorded rs c
-unfolding clock_in
 recorded [] c i lt e = absurd (omega arith)
-recorded (r ∷ rs) c zero lt e = record { at = 0; below = omega arith; client = e; known = cond-true _ _ _ (eq-eqb _ _ e) }
+recorded (r ∷ rs) c zero lt e = record { at = 0; below = omega arith; client = e; known = clock_here r rs c (eq-eqb _ _ e) }
 recorded (r ∷ rs) c (suc i) lt e =
     ⊎_elim
-    (λ h. record { at = 0; below = omega arith; client = eqb-true _ _ h; known = cond-true _ _ _ h })
+    (λ h. record { at = 0; below = omega arith; client = eqb-true _ _ h; known = clock_here r rs c h })
     (λ h. later_on r rs c h (recorded rs c i (omega arith) e))
     (cases_Bool (r.client == c))
 
@@ -35,9 +57,10 @@ pub small_clock : (rs : List ClientRecord) (c : ℕ) → ((i : ℕ) → i < leng
 unfolding clock_in
 small_clock [] c h = omega arith
 small_clock (r ∷ rs) c h =
-    let here : r.known ≤ 2147483647 = h 0 (omega arith) in
-    let there : clock_in rs c ≤ 2147483647 = small_clock rs c (λ i lt. h (suc i) (omega arith)) in
-    elim (r.client == c) as (λ b. cond b r.known (clock_in rs c) ≤ 2147483647) [ true ↦ here | false ↦ there ]
+    ⊎_elim
+    (λ e. let a = clock_here r rs c e in let b : r.known ≤ 2147483647 = h 0 (omega arith) in omega (arith, a, b))
+    (λ e. let a = clock_past r rs c e in let b = small_clock rs c (λ i lt. h (suc i) (omega arith)) in omega (arith, a, b))
+    (cases_Bool (r.client == c))
 
 later_keeps : (c k : ℕ) (r : RunRecord) → k ≤ later c k r
 later_keeps c k r =

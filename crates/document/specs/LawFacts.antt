@@ -1,10 +1,11 @@
 -- The laws of a reader, of a sound document.
-use Rattle.std.specs.Prelude.{◌≡◌, ℕ, zero, suc, ◌+◌, ◌-◌, ◌^◌, ◌<◌, ◌≤◌, Bool, true, false, ◌&&◌, List, [], length, get_or, is_some, Some, None, Option, ◌==◌, nat_le, nat_lt, slice_index_or, refl}
+use Rattle.std.specs.Prelude.{◌≡◌, ℕ, zero, suc, ◌+◌, ◌-◌, ◌^◌, ◌<◌, ◌≤◌, Bool, true, false, ◌&&◌, List, [], length, get_or, is_some, Some, None, Option, cond, ◌==◌, nat_le, nat_lt, slice_index_or, refl}
 use Rattle.std.proofs.Common.{sym, subst, ◌∙◌, ⊎_elim, add-zero, arith}
 use Rattle.std.proofs.Math.Path.{ap}
 use Rattle.std.specs.Option.{unwrap_or}
-use Rattle.std.proofs.lemmas.Bool.{cases_lt, and_parts, and_from, eqb-true, leb-true, ltb-true, eq-eqb, le-leb, lt-ltb, not-true, not-false, cond-true}
+use Rattle.std.proofs.lemmas.Bool.{both_ways, cases_lt, and_parts, and_from, eqb-true, leb-true, ltb-true, eq-eqb, le-leb, lt-ltb, cond-true}
 use Rattle.std.proofs.lemmas.List.{get_or_past}
+use Rattle.std.proofs.lemmas.List.Quantifiers.{position-Some}
 use Rattle.block.specs.Units.{UnitOf, Stretch, Lawful, RunOf, no_unit, unit_at, seen, nested}
 use Rattle.block.specs.declared.ids.Id.{Id}
 use Rattle.block.specs.declared.kind.Kind.TheVariants as kinds
@@ -14,26 +15,20 @@ use Rattle.reader.specs.Answers.{Onward, Found}
 use Rattle.store.specs.declared.records.ListRecord.{ListRecord}
 use Rattle.store.specs.declared.records.RunRecord.{RunRecord}
 use Rattle.store.specs.Clocks.{end_of}
-use Rattle.store.specs.First.{failing, passing}
-use Rattle.store.specs.FirstFacts.{none_all, found_within, found_fails, some_pass_some, only_one}
+use Rattle.store.specs.First.{passing}
+use Rattle.store.specs.FirstFacts.{some_pass_some, only_one}
 use Rattle.store.specs.Kinds.{kind_of}
-use Rattle.store.specs.Records.{Store, run_at, list_at, no_list}
+use Rattle.store.specs.Records.{Store, run_at, list_at, no_run, no_list}
 use Rattle.links.specs.Links.{is_list, held_by_at, is_holder_at, holder_agrees}
 use Rattle.document.specs.Meaning.{list_held, worth_of, unit_of, spell, units_in, clock_in, meaning_of, upto, offset, stretch_of}
 use Rattle.document.specs.Sound.{Sound}
-use Rattle.document.specs.Finds.{has, has_at, find_run}
-use Rattle.document.specs.ReadingFacts.{unit_in, span, stretched_is, stretched_some, no_stretch}
+use Rattle.document.specs.Finds.{has, find_run}
+use Rattle.document.specs.FindFacts.{position_fails}
+use Rattle.document.specs.ReadingFacts.{some_is, unit_in, span, stretched_is, stretched_some, no_stretch}
 use Rattle.document.specs.LengthFacts.{Stands, near, apart, long_U, next_at, same_run, counted_is}
 
 some_same : (a b : ℕ) → ◌≡◌ {A = Option ℕ} (Some a) (Some b) → a ≡ b
 some_same a b h = cc
-
-some_is : (o : Option ℕ) → is_some o ≡ true → (x : ℕ) × (o ≡ Some x)
-some_is None h = let z : ◌≡◌ {A = ℕ} 0 1 = cc in absurd (omega arith)
-some_is (Some x) h = (x, refl)
-
-no_both : {X : Type 0} (b : Bool) → b ≡ false → b ≡ true → X
-no_both b f t = let z : ◌≡◌ {A = ℕ} 0 1 = cc in absurd (omega arith)
 
 -- a unit of a list, by its run
 pub record OfRun (d : Store) (s : Sound d) (l i : ℕ) : Type 0 where
@@ -153,7 +148,7 @@ module _ (d : Store) (s : Sound d) where
   no_holder l id e =
       ⊎_elim
       (λ lt. lt)
-      (λ ge. let f = ap (λ (x : ListRecord). x.holder) (get_or_past d.lists l no_list ge) in let z : ◌≡◌ {A = ℕ} 0 1 = cc in absurd (omega arith))
+      (λ ge. let f = ap (λ (x : ListRecord). x.holder) (get_or_past d.lists l no_list ge) in cc)
       (cases_lt l (length d.lists))
 
   few_seen : (l : ℕ) → length (seen (units_in d l)) < 2 ^ 32
@@ -181,6 +176,11 @@ module _ (d : Store) (s : Sound d) where
         holds = λ l k i lt e. holder_unit l k i (no_holder l (unit_at (meaning_of d) k i).id e) lt e;
       }
 
+-- an offset is there only where the test passes
+test_of : (b : Bool) (k : ℕ) → is_some (cond b (Some k) None) ≡ true → b ≡ true
+test_of true k h = refl
+test_of false k h = cc
+
 -- the run has the unit: where in the run it stands
 pub record Has (id : Id) (r : RunRecord) : Type 0 where
   pub client : r.id.client ≡ id.client
@@ -189,12 +189,13 @@ pub record Has (id : Id) (r : RunRecord) : Type 0 where
 
 pub has_is : (id : Id) (r : RunRecord) → has id r ≡ true → Has id r
 has_is id r h =
-    let a = and_parts (r.id.client == id.client) (nat_le r.id.clock id.clock && nat_lt id.clock (end_of r)) h in
+    let t = test_of (r.id.client == id.client && (nat_le r.id.clock id.clock && nat_lt id.clock (end_of r))) (id.clock - r.id.clock) h in
+    let a = and_parts (r.id.client == id.client) (nat_le r.id.clock id.clock && nat_lt id.clock (end_of r)) t in
     let b = and_parts (nat_le r.id.clock id.clock) (nat_lt id.clock (end_of r)) a.1 in
     record { client = eqb-true r.id.client id.client a.0; from = leb-true r.id.clock id.clock b.0; to = ltb-true id.clock (end_of r) b.1 }
 
-has_from : (id : Id) (r : RunRecord) → Has id r → has id r ≡ true
-has_from id r h = and_from (r.id.client == id.client) (nat_le r.id.clock id.clock && nat_lt id.clock (end_of r)) (eq-eqb r.id.client id.client h.client) (and_from (nat_le r.id.clock id.clock) (nat_lt id.clock (end_of r)) (le-leb r.id.clock id.clock h.from) (lt-ltb id.clock (end_of r) h.to))
+pub has_from : (id : Id) (r : RunRecord) → Has id r → has id r ≡ true
+has_from id r h = ap (λ b. is_some (cond b (Some (id.clock - r.id.clock)) None)) (and_from (r.id.client == id.client) (nat_le r.id.clock id.clock && nat_lt id.clock (end_of r)) (eq-eqb r.id.client id.client h.client) (and_from (nat_le r.id.clock id.clock) (nat_lt id.clock (end_of r)) (le-leb r.id.clock id.clock h.from) (lt-ltb id.clock (end_of r) h.to)))
 
 unit_id : (d : Store) (id : Id) (r : RunRecord) → Has id r → (unit_of d r (id.clock - r.id.clock)).id ≡ id
 unit_id d id r h =
@@ -217,10 +218,10 @@ module _ (d : Store) (s : Sound d) (id : Id) where
       omega arith
 
   pub found_none : find_run d id ≡ None → Found (meaning_of d) (stretch_of d) id None
-  found_none h = not_found (λ p lt t. no_both (has id (run_at d p)) (not-true (has id (run_at d p)) (none_all (failing (has_at d id)) (length d.runs) h p lt)) t)
+  found_none h = not_found (λ p lt t. absurd (both_ways (has id (run_at d p)) (position_fails (has id) d.runs no_run h p lt) t))
 
   pub found_has : (p : ℕ) → find_run d id ≡ Some p → (p < length d.runs) × Has id (run_at d p)
-  found_has p h = (found_within (failing (has_at d id)) (length d.runs) p h, has_is id (run_at d p) (not-false (has id (run_at d p)) (found_fails (failing (has_at d id)) (length d.runs) p h)))
+  found_has p h = let q = position-Some (has id) d.runs p no_run h in (q.0, has_is id (run_at d p) q.1)
 
   pub found_apart : (p : ℕ) → find_run d id ≡ Some p → (run_at d p).list ≡ None → Found (meaning_of d) (stretch_of d) id None
   found_apart p h e =

@@ -79,18 +79,18 @@ drop_append_at : {X : Type 0} (xs ys : List X) (n : ℕ) → length xs ≡ n →
 drop_append_at xs ys n e = subst (λ k. drop k (xs ++ ys) ≡ ys) e (drop-append_seam xs ys)
 
 some_is : (o : Option ℕ) → is_some o ≡ true → (x : ℕ) × (o ≡ Some x)
-some_is None h = let z : ◌≡◌ {A = ℕ} 0 1 = cc in absurd (omega arith)
+some_is None h = cc
 some_is (Some x) h = (x, refl)
 
 some_same : (a b : ℕ) → ◌≡◌ {A = Option ℕ} (Some a) (Some b) → a ≡ b
 some_same a b h = cc
 
 is_true : (o : Option ℕ) (i : ℕ) → is o i ≡ true → o ≡ Some i
-is_true None i h = let z : ◌≡◌ {A = ℕ} 0 1 = cc in absurd (omega arith)
+is_true None i h = cc
 is_true (Some j) i h = ap Some (eqb-true j i h)
 
 no_both : {X : Type 0} (b : Bool) → b ≡ false → b ≡ true → X
-no_both b f t = let z : ◌≡◌ {A = ℕ} 0 1 = cc in absurd (omega arith)
+no_both b f t = cc
 
 -- what is spelled from a run on, as what is left of its list
 module _ (d : Store) (s : Sound d) where

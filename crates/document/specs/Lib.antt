@@ -1,6 +1,7 @@
 pub mod Examined
 pub mod Meaning
 pub mod Finds
+pub mod FindFacts
 pub mod Slots
 pub mod Sound
 pub mod WalkFacts

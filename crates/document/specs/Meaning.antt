@@ -1,7 +1,7 @@
 -- What examined tables mean: each list's runs from left to right, unit by unit.
-use Rattle.std.specs.Prelude.{ℕ, zero, suc, ◌+◌, cond, List, [], ◌∷◌, ◌++◌, map, length, Some, None, Option, ◌==◌, slice_index_or}
-use Rattle.std.specs.List.{range_with_len}
-use Rattle.std.specs.Option.{unwrap_or}
+use Rattle.std.specs.Prelude.{ℕ, zero, suc, ◌+◌, List, [], ◌++◌, map, length, Some, None, Option, ◌==◌, slice_index_or}
+use Rattle.std.specs.List.{find, range_with_len}
+use Rattle.std.specs.Option.{option_map, unwrap_or}
 use Rattle.block.specs.Units.{Meaning, Stretch, UnitOf, Worth, bytes, nested}
 use Rattle.block.specs.declared.ids.Id.{Id}
 use Rattle.block.specs.declared.kind.Kind.{Kind}
@@ -61,8 +61,7 @@ units_in s l = spell s (list_at s l).start (suc (length s.runs))
 
 -- the known clock of a client: that of its record, else 0
 unfoldable pub clock_in : List ClientRecord → ℕ → ℕ
-clock_in [] c = 0
-clock_in (r ∷ rs) c = cond (r.client == c) r.known (clock_in rs c)
+clock_in rs c = unwrap_or (option_map (λ (r : ClientRecord). r.known) (find (λ (r : ClientRecord). r.client == c) rs)) 0
 
 -- what the tables mean
 abbrev pub meaning_of : Store → Meaning

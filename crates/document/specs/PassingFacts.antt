@@ -1,6 +1,6 @@
 -- In accepted tables each record passes its tests.
 use Rattle.std.specs.Prelude.{◌≡◌, ℕ, ◌<◌, Bool, true, false, cond, not, length, is_some, Some, None, Option, refl}
-use Rattle.std.proofs.Common.{arith}
+use Rattle.std.specs.Option.{option_or}
 use Rattle.block.specs.declared.fault.Code.{Code}
 use Rattle.block.specs.declared.fault.Fault.{Fault}
 use Rattle.block.specs.declared.fault.Spot.{Spot}
@@ -12,19 +12,19 @@ use Rattle.store.specs.Ranges.{run_fits_at, list_fits_at, client_fits_at, entry_
 use Rattle.store.specs.Records.{Store}
 use Rattle.links.specs.Links.{run_agrees_at, list_agrees_at, client_agrees_at}
 use Rattle.content.specs.Content.{run_filled_at, entry_serves_at, byte_serves_at}
-use Rattle.document.specs.Examined.{report, either, crowded, out_of_range, overlapping, disagreeing, misfilled, examined, accepts}
+use Rattle.document.specs.Examined.{report, crowded, out_of_range, overlapping, disagreeing, misfilled, examined, accepts}
 
 no_some : {A : Type 0} {B : Type 0} {x : A} → ◌≡◌ {A = Option A} (Some x) None → B
-no_some h = let z : ◌≡◌ {A = ℕ} 0 1 = cc in absurd (omega arith)
+no_some h = cc
 
 no_truth : {B : Type 0} → false ≡ true → B
-no_truth h = let z : ◌≡◌ {A = ℕ} 0 1 = cc in absurd (omega arith)
+no_truth h = cc
 
 report_none : (k : Code) (t : ℕ → Spot) (o : Option ℕ) (rest : Option Fault) → report k t o rest ≡ None → (o ≡ None) × (rest ≡ None)
 report_none k t None rest h = (refl, h)
 report_none k t (Some i) rest h = no_some h
 
-either_none : (a b : Option Fault) → either a b ≡ None → (a ≡ None) × (b ≡ None)
+either_none : (a b : Option Fault) → option_or a b ≡ None → (a ≡ None) × (b ≡ None)
 either_none None b h = (refl, h)
 either_none (Some x) b h = no_some h
 

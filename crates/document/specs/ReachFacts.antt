@@ -8,7 +8,7 @@ use Rattle.document.specs.Meaning.{plus, upto}
 use Rattle.document.specs.WalkFacts.{upto_more}
 
 no_truth : {B : Type 0} → false ≡ true → B
-no_truth h = let z : ◌≡◌ {A = ℕ} 0 1 = cc in absurd (omega arith)
+no_truth h = cc
 
 -- right neighbours are runs in use that name the run as their left one
 abbrev pub ToRight : Store → Type 0

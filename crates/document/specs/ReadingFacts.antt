@@ -1,26 +1,25 @@
 -- What the runs of a sound document say of its meaning.
-use Rattle.std.specs.Prelude.{◌≡◌, ℕ, zero, suc, ◌+◌, ◌-◌, ◌<◌, ◌≤◌, true, cond, List, [], ◌++◌, length, get_or, drop, is_some, Some, None, Option, ◌==◌, slice_index_or, refl}
+use Rattle.std.specs.Prelude.{◌≡◌, ℕ, zero, suc, ◌+◌, ◌-◌, ◌<◌, ◌≤◌, true, List, [], ◌++◌, length, get_or, is_some, Some, None, Option, slice_index_or, refl}
 use Rattle.std.proofs.Math.Path.{sym, ap}
 use Rattle.std.proofs.Common.{subst, ◌∙◌, add-zero, arith, length-append}
 use Rattle.std.proofs.lemmas.List.FromFn.{get_or-map-range_with_len}
-use Rattle.std.proofs.lemmas.List.{get_or-append_right, get_or_append_left, get_or_past, drop_more, drop_all}
+use Rattle.std.proofs.lemmas.List.{get_or-append_right, get_or_append_left, get_or_past}
 use Rattle.block.specs.Units.{UnitOf, Stretch, Meaning, no_unit}
 use Rattle.block.specs.declared.kind.Kind.{Kind}
 use Rattle.reader.specs.Answers.{Onward, Backward, Right, Left, Described, described}
 use Rattle.reader.specs.declared.reader.Description.{Description}
-use Rattle.store.specs.declared.records.ClientRecord.{ClientRecord}
 use Rattle.store.specs.declared.records.RunRecord.{RunRecord}
 use Rattle.store.specs.Kinds.{kind_of}
-use Rattle.store.specs.Records.{Store, run_at, list_at, no_run, no_client}
-use Rattle.document.specs.Meaning.{unit_of, units_of, spell, units_in, clock_in, meaning_of, upto, offset, stretched, stretch_of}
+use Rattle.store.specs.Records.{Store, run_at, list_at, no_run}
+use Rattle.document.specs.Meaning.{unit_of, units_of, spell, units_in, meaning_of, upto, offset, stretched, stretch_of}
 use Rattle.document.specs.Sound.{Linked, Sound}
 use Rattle.document.specs.WalkFacts.{upto_step, walked, length_units}
 
 no_some : {A : Type 0} {B : Type 0} (x : A) → ◌≡◌ {A = Option A} None (Some x) → B
-no_some x h = let z : ◌≡◌ {A = ℕ} 0 1 = cc in absurd (omega arith)
+no_some x h = cc
 
 pub some_is : (o : Option ℕ) → is_some o ≡ true → (x : ℕ) × (o ≡ Some x)
-some_is None h = let z : ◌≡◌ {A = ℕ} 0 1 = cc in absurd (omega arith)
+some_is None h = cc
 some_is (Some x) h = (x, refl)
 
 abbrev pub span : ℕ → ℕ → ℕ → Stretch
@@ -43,8 +42,8 @@ stretched_some a b n l x e f = rw (e, f) refl
 
 pub stretched_none : (a b : Option ℕ) (n : ℕ) → stretched a b n ≡ None → is_some b ≡ true → a ≡ None
 stretched_none None b n h s = refl
-stretched_none (Some l) None n h s = let z : ◌≡◌ {A = ℕ} 0 1 = cc in absurd (omega arith)
-stretched_none (Some l) (Some x) n h s = let z : ◌≡◌ {A = ℕ} 0 1 = cc in absurd (omega arith)
+stretched_none (Some l) None n h s = cc
+stretched_none (Some l) (Some x) n h s = cc
 
 pub stretch_past : (d : Store) (p : ℕ) → length d.runs ≤ p → stretch_of d p ≡ None
 stretch_past d p h =
@@ -146,11 +145,3 @@ pub described_none : (d : Store) (m : Meaning) (p : ℕ) → (run_at d p).list �
 described_none d m p e =
     let f : stretch_of d p ≡ None = ap (λ (o : Option ℕ). stretched o (offset d p) (run_at d p).len) e in
     subst (λ (o : Option Stretch). Described m o None) (sym f) refl
-
-pub clock_step : (rs : List ClientRecord) (i c : ℕ) → i < length rs → clock_in (drop i rs) c ≡ cond ((get_or rs i no_client).client == c) (get_or rs i no_client).known (clock_in (drop (i + 1) rs) c)
-unfolding clock_in
-clock_step rs i c h = rw (drop_more rs i no_client h) refl
-
-pub clock_end : (rs : List ClientRecord) (i c : ℕ) → length rs ≤ i → clock_in (drop i rs) c ≡ 0
-unfolding clock_in
-clock_end rs i c h = rw (drop_all i rs h) refl

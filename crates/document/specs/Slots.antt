@@ -1,7 +1,8 @@
 -- The slot of a unit, and what a slot shows.
 use Rattle.std.specs.Prelude.{◌≡◌, ℕ, ◌+◌, ◌-◌, ◌<◌, min, cond, List, [], length, take, drop, Some, None, Option, nat_le, nat_lt, slice_index_or}
 use Rattle.block.specs.Kinds.{is_counted}
-use Rattle.block.specs.Units.{Worth, bytes, nested}
+use Rattle.block.specs.Units.{Worth, nested}
+use Rattle.block.specs.Values.{part_of}
 use Rattle.block.specs.declared.kind.Kind.{Kind}
 use Rattle.block.specs.declared.kind.Kind.TheVariants as kinds
 use Rattle.block.specs.declared.slot.Slot.{Slot}
@@ -13,24 +14,10 @@ use Rattle.document.specs.Meaning.{list_held}
 use Rattle.utf8.specs.Reading.{characters, together}
 use Rattle.utf8.specs.Table.{utf8_char}
 
--- bytes of a kind whose values are bytes
-abbrev pub shown_content : Kind → List ℕ → Option (Kind × Worth)
-shown_content kinds.Gc bs = None
-shown_content kinds.Deleted bs = None
-shown_content kinds.Json bs = Some (kinds.Json, bytes bs)
-shown_content kinds.Binary bs = Some (kinds.Binary, bytes bs)
-shown_content kinds.Text bs = Some (kinds.Text, bytes bs)
-shown_content kinds.Embed bs = Some (kinds.Embed, bytes bs)
-shown_content kinds.Format bs = None
-shown_content kinds.List bs = None
-shown_content kinds.Any bs = Some (kinds.Any, bytes bs)
-shown_content kinds.Doc bs = Some (kinds.Doc, bytes bs)
-shown_content kinds.Skip bs = None
-
 -- a slot shows the bytes that it names, or the list; none where there are no such bytes, or no such list
 abbrev pub shown_in : Store → Slot → Option (Kind × Worth)
 shown_in s slots.Empty = None
-shown_in s (slots.Content kind start len) = cond (nat_le (start + len) (length s.bytes)) (shown_content kind (take len (drop start s.bytes))) None
+shown_in s (slots.Content kind start len) = cond (nat_le (start + len) (length s.bytes)) (part_of kind (take len (drop start s.bytes))) None
 shown_in s (slots.List l) = cond (nat_lt l (length s.lists)) (Some (kinds.List, nested l)) None
 
 -- the slot of an entry
@@ -44,10 +31,6 @@ place_of cs k = length (together (take k cs))
 -- the slot of character k of a text that begins at this byte
 abbrev pub text_slot : ℕ → List (List ℕ) → ℕ → Slot
 text_slot start cs k = slots.Content kinds.Text (start + place_of cs k) (length (slice_index_or cs k []))
-
--- the slot of a unit that holds a list
-abbrev pub list_slot : ℕ → ℕ → Slot
-list_slot l k = slots.List l
 
 -- one byte of a text
 abbrev pub byte_slot : ℕ → ℕ → Slot
@@ -71,8 +54,12 @@ slot_of s kinds.Skip r k = slots.Empty
 abbrev pub count_from : RunRecord → ℕ → ℕ → ℕ
 count_from r offset room = min (cond (is_counted (kind_of r.kind)) (r.len - offset) 0) room
 
--- the first n slots are written, the others stay
-pub record Filled (f : ℕ → Slot) (n : ℕ) (before after : List Slot) : Type 0 where
-  pub written : (k : ℕ) → k < n → slice_index_or after k slots.Empty ≡ f k
+-- each of the first n slots is one that its number allows, the others stay
+pub record Written (allows : ℕ → Slot → Type 0) (n : ℕ) (before after : List Slot) : Type 0 where
+  pub written : (k : ℕ) → k < n → allows k (slice_index_or after k slots.Empty)
   pub rest : drop n after ≡ drop n before
   pub long : length after ≡ length before
+
+-- the first n slots are these
+abbrev pub Filled : (ℕ → Slot) → ℕ → List Slot → List Slot → Type 0
+Filled f n before after = Written (λ k v. v ≡ f k) n before after

@@ -21,7 +21,7 @@ use Rattle.document.specs.Sound.{Linked, Sound}
 use Rattle.document.specs.PassingFacts.{Passing, passing_from}
 
 no_truth : {B : Type 0} → false ≡ true → B
-no_truth h = let z : ◌≡◌ {A = ℕ} 0 1 = cc in absurd (omega arith)
+no_truth h = cc
 
 is_true : (o : Option ℕ) (i : ℕ) → is o i ≡ true → o ≡ Some i
 is_true None i h = no_truth h
@@ -192,7 +192,7 @@ module _ (s : Store) (p : Passing s) where
       let t = start_of l j (listed i l lt e) f in
       ⊎_elim
       (λ same. f ∙ ap Some same)
-      (λ k. let b = k.1 in let z : ◌≡◌ {A = ℕ} 0 1 = cc in absurd (omega arith))
+      (λ k. let b = k.1 in cc)
       (first_or_left s to_right i (length s.runs) j t.0 (subst (λ (o : Option ℕ). meets s i o (length s.runs) ≡ true) f (meeting i l lt e)))
 
   links : Linked s

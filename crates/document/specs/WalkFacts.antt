@@ -9,7 +9,7 @@ use Rattle.document.specs.Meaning.{unit_of, units_of, spell, plus, upto}
 use Rattle.document.specs.Sound.{Linked}
 
 no_some : {A : Type 0} {B : Type 0} (x : A) → ◌≡◌ {A = Option A} None (Some x) → B
-no_some x h = let z : ◌≡◌ {A = ℕ} 0 1 = cc in absurd (omega arith)
+no_some x h = cc
 
 -- a walk that ended ends at the same number with more fuel
 plus_some : (k : ℕ) (o : Option ℕ) (y : ℕ) → plus k o ≡ Some y → (x : ℕ) × (o ≡ Some x) × (y ≡ x + k)

@@ -1,5 +1,6 @@
-ghost use Rattle.std.specs.Prelude.{◌≡◌, true, Some, None, MatchResult};
-ghost use Rattle.store.specs.Records.{held};
+ghost use Rattle.std.specs.Prelude.{◌≡◌, ◌<◌, ◌≤◌, true, length, Some, None, MatchResult};
+ghost use Rattle.reader.specs.Answers.{no_list};
+ghost use Rattle.store.specs.Records.{held, list_at};
 ghost use Rattle.document.specs.Examined.{accepts, examined};
 ghost use Rattle.document.specs.LawFacts.{lawful_is, settled_is, faithful_is};
 ghost use Rattle.document.specs.Meaning.{meaning_of, stretch_of};
@@ -7,20 +8,21 @@ ghost use Rattle.document.specs.Slots.{shown_in};
 ghost use Rattle.document.specs.SoundFacts.{sound_from};
 
 use crate::examine::verdict;
-use crate::fill::read_of;
-use crate::find::{clock_of, find_of, nearest_of};
+use crate::fill::count_from;
+use crate::find::{clock_of, due_run, run_with};
 use crate::show::shown;
-use crate::walk::{description_of, first_of, holder_of, left_of, length_of, right_of};
-use block::fault::Fault;
+use block::fault::{Code, Fault, Spot};
 use block::ids::Id;
 use block::slot::{Slot, Value};
 use reader::reader::{Description, Reader};
-use store::records::View;
+use store::kinds::kind_of;
+use store::records::{ListRecord, View};
+use store::refusal::fault_at;
 
 // Tables that passed examination. There is no other way to make one.
 #[derive(Clone, Copy)]
 pub struct Document<'b, 'a> {
-    view: &'b View<'a>,
+    pub(crate) view: &'b View<'a>,
     ghost shape: { accepts (held view.now) ≡ true },
 }
 
@@ -29,10 +31,8 @@ impl<'b, 'a> Document<'b, 'a> {
     pub fn examine(view: &'b View<'a>) -> Result<Document<'b, 'a>, Fault>
         ensures { MatchResult result (λ d. (examined (held view.now) ≡ None) × (d.view.now ≡ view.now)) (λ f. examined (held view.now) ≡ Some f) }
     {
-        match verdict(view) {
-            Some(fault) => Err(fault),
-            None => Ok(Document { view }),
-        }
+        verdict(view)?;
+        Ok(Document { view })
     }
 
     // The tables.
@@ -40,6 +40,14 @@ impl<'b, 'a> Document<'b, 'a> {
         ensures { result.now ≡ self.now.view.now }
     {
         self.view
+    }
+
+    // The record of a list; refused where there is no such list.
+    fn record_of(&self, list: u32) -> Result<ListRecord, Fault>
+        ensures { MatchResult result (λ r. (list < length (held self.now.view.now).lists) × (r ≡ list_at (held self.now.view.now) list)) (λ f. (length (held self.now.view.now).lists ≤ list) × (f ≡ no_list 0 list)) }
+    {
+        let absent = fault_at(Code::NoSuchList, Spot::List(list));
+        self.view.lists.get(list as usize).copied().ok_or(absent)
     }
 }
 
@@ -61,27 +69,40 @@ impl<'b, 'a> Reader for Document<'b, 'a> {
     ghost faithful = { λ d. faithful_is (held d.view.now) (sound_from (held d.view.now) d.shape) };
 
     fn first(&self, list: u32) -> Result<Option<u32>, Fault> {
-        first_of(self.view, list)
+        Ok(self.record_of(list)?.start)
     }
 
     fn right(&self, place: u32) -> Option<u32> {
-        right_of(self.view, place)
+        self.view.runs.get(place as usize)?.right
     }
 
     fn left(&self, place: u32) -> Option<u32> {
-        left_of(self.view, place)
+        self.view.runs.get(place as usize)?.left
     }
 
     fn describe(&self, place: u32) -> Option<Description> {
-        description_of(self.view, place)
+        let run = self.view.runs.get(place as usize)?;
+        let list = run.list?;
+        Some(Description {
+            id: run.id,
+            len: run.len,
+            kind: kind_of(run.kind),
+            live: run.live,
+            list,
+            redone: run.redone,
+        })
     }
 
     fn find(&self, id: Id) -> Option<(u32, u32)> {
-        find_of(self.view, id)
+        let place = run_with(self.view, id)?;
+        let run = self.view.run(place);
+        // a unit that stands in no list is not found
+        run.list?;
+        Some((place as u32, id.clock - run.id.clock))
     }
 
     fn nearest(&self, client: u64, clock: u32) -> Option<u32> {
-        nearest_of(self.view, client, clock)
+        Some(due_run(self.view, client, clock)? as u32)
     }
 
     fn known(&self, client: u64) -> u32 {
@@ -89,15 +110,17 @@ impl<'b, 'a> Reader for Document<'b, 'a> {
     }
 
     fn length(&self, list: u32) -> Result<u32, Fault> {
-        length_of(self.view, list)
+        Ok(self.record_of(list)?.len)
     }
 
     fn holder(&self, list: u32) -> Result<Option<Id>, Fault> {
-        holder_of(self.view, list)
+        Ok(self.record_of(list)?.holder)
     }
 
     fn read(&self, place: u32, offset: u32, slots: &mut [Slot]) -> usize {
-        read_of(self.view, place, offset, slots)
+        let n = count_from(self.view.run(place as usize), offset, slots.len());
+        self.fill(place as usize, offset, n, slots);
+        n
     }
 
     fn show(&self, slot: Slot) -> Option<Value<'_>> {

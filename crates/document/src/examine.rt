@@ -1,7 +1,8 @@
-ghost use Rattle.std.specs.Prelude.{◌≡◌, true};
+ghost use Rattle.std.specs.Prelude.{◌≡◌, ℕ, ◌^◌, ◌<◌, ◌≤◌, length, true, Ok, Err, Some, MatchOption, MatchResult};
 ghost use Rattle.store.specs.Limits.{counts_fit};
 ghost use Rattle.store.specs.Records.{held};
-ghost use Rattle.document.specs.Examined.{out_of_range, overlapping, disagreeing, misfilled, examined};
+ghost use Rattle.store.specs.Refusals.{fault_at};
+ghost use Rattle.document.specs.Examined.{crowded, out_of_range, overlapping, disagreeing, misfilled, examined, unless_fault};
 
 use block::fault::{Code, Fault, Spot};
 use content::{fill, serve};
@@ -11,82 +12,102 @@ use store::refusal::fault_at;
 use store::tables::counts_fit;
 use store::{clocks, ranges};
 
-fn out_of_range(view: &View<'_>) -> Option<Fault>
-    requires { counts_fit (held view.now) ≡ true }
-    ensures { result ≡ out_of_range (held view.now) }
+// A fault at the record that was found to fail, if there is one.
+fn report<F: Fn(u32) -> Spot>(found: Option<usize>, code: Code, spot: F) -> Result<(), Fault>
+    requires callable { F.IsAlwaysCallable spot }
+    requires small { (i : ℕ) → found ≡ Some i → i < 2 ^ 32 }
+    ensures { MatchOption found (result ≡ Ok tt) (λ i. (s : _) × F.post spot i s × (result ≡ Err (fault_at code s))) }
 {
-    if let Some(i) = ranges::first_run(view) {
-        return Some(fault_at(Code::OutOfRange, Spot::RunRecord(i as u32)));
-    }
-    if let Some(l) = ranges::first_list(view) {
-        return Some(fault_at(Code::OutOfRange, Spot::ListRecord(l as u32)));
-    }
-    if let Some(i) = ranges::first_client(view) {
-        return Some(fault_at(Code::OutOfRange, Spot::ClientRecord(i as u32)));
-    }
-    if let Some(e) = ranges::first_entry(view) {
-        return Some(fault_at(Code::OutOfRange, Spot::EntryRecord(e as u32)));
-    }
-    None
-}
-
-fn overlapping(view: &View<'_>) -> Option<Fault>
-    requires { counts_fit (held view.now) ≡ true }
-    ensures { result ≡ overlapping (held view.now) }
-{
-    match clocks::first_overlap(view) {
-        Some(i) => Some(fault_at(Code::Overlap, Spot::RunRecord(i as u32))),
-        None => None,
+    match found {
+        None => Ok(()),
+        Some(i) => Err(fault_at(code, spot(i as u32))),
     }
 }
 
-fn disagreeing(view: &View<'_>) -> Option<Fault>
-    requires { counts_fit (held view.now) ≡ true }
-    ensures { result ≡ disagreeing (held view.now) }
-{
-    if let Some(i) = agree::first_run(view) {
-        return Some(fault_at(Code::Disagreement, Spot::RunRecord(i as u32)));
-    }
-    if let Some(l) = agree::first_list(view) {
-        return Some(fault_at(Code::Disagreement, Spot::ListRecord(l as u32)));
-    }
-    if let Some(i) = agree::first_client(view) {
-        return Some(fault_at(Code::Disagreement, Spot::ClientRecord(i as u32)));
-    }
-    None
+// Tables with no more records in use than a document may have.
+#[derive(Clone, Copy)]
+struct Counted<'b, 'a> {
+    view: &'b View<'a>,
+    ghost counts: { counts_fit (held view.now) ≡ true },
 }
 
-fn misfilled(view: &View<'_>) -> Option<Fault>
-    requires { counts_fit (held view.now) ≡ true }
-    ensures { result ≡ misfilled (held view.now) }
-{
-    if let Some(i) = fill::first_run(view) {
-        return Some(fault_at(Code::Content, Spot::RunRecord(i as u32)));
+impl<'b, 'a> Counted<'b, 'a> {
+    fn new(view: &'b View<'a>) -> Result<Counted<'b, 'a>, Fault>
+        ensures { MatchResult result (λ c. (counts_fit (held view.now) ≡ true) × (c.view.now ≡ view.now)) (λ f. crowded (held view.now) ≡ Some f) }
+    {
+        if counts_fit(view) {
+            Ok(Counted { view })
+        } else {
+            Err(fault_at(Code::OutOfRange, Spot::Nowhere))
+        }
     }
-    if let Some(e) = serve::first_entry(view) {
-        return Some(fault_at(Code::Content, Spot::EntryRecord(e as u32)));
+
+    // Fault 1: a field is out of range.
+    fn out_of_range(&self) -> Result<(), Fault>
+        ensures { result ≡ unless_fault (out_of_range (held self.now.view.now)) }
+    {
+        let view = self.view;
+        report(ranges::first_run(view), Code::OutOfRange, Spot::RunRecord)?;
+        report(ranges::first_list(view), Code::OutOfRange, Spot::ListRecord)?;
+        report(
+            ranges::first_client(view),
+            Code::OutOfRange,
+            Spot::ClientRecord,
+        )?;
+        report(
+            ranges::first_entry(view),
+            Code::OutOfRange,
+            Spot::EntryRecord,
+        )
     }
-    if let Some(b) = serve::first_byte(view) {
-        return Some(fault_at(Code::Content, Spot::Byte(b as u32)));
+
+    // Fault 2: runs of one client overlap or leave a gap.
+    fn overlapping(&self) -> Result<(), Fault>
+        ensures { result ≡ unless_fault (overlapping (held self.now.view.now)) }
+    {
+        report(
+            clocks::first_overlap(self.view),
+            Code::Overlap,
+            Spot::RunRecord,
+        )
     }
-    None
+
+    // Fault 3: records disagree.
+    fn disagreeing(&self) -> Result<(), Fault>
+        ensures { result ≡ unless_fault (disagreeing (held self.now.view.now)) }
+    {
+        let view = self.view;
+        report(agree::first_run(view), Code::Disagreement, Spot::RunRecord)?;
+        report(
+            agree::first_list(view),
+            Code::Disagreement,
+            Spot::ListRecord,
+        )?;
+        report(
+            agree::first_client(view),
+            Code::Disagreement,
+            Spot::ClientRecord,
+        )
+    }
+
+    // Fault 4: content does not match.
+    fn misfilled(&self) -> Result<(), Fault>
+        ensures { result ≡ unless_fault (misfilled (held self.now.view.now)) }
+    {
+        let view = self.view;
+        report(fill::first_run(view), Code::Content, Spot::RunRecord)?;
+        report(serve::first_entry(view), Code::Content, Spot::EntryRecord)?;
+        report(serve::first_byte(view), Code::Content, Spot::Byte)
+    }
 }
 
-// The first fault that the tables have, pass by pass and record by record.
-pub fn verdict(view: &View<'_>) -> Option<Fault>
-    ensures { result ≡ examined (held view.now) }
+// Refuses tables by the first fault that they have, pass by pass and record by record.
+pub fn verdict(view: &View<'_>) -> Result<(), Fault>
+    ensures { result ≡ unless_fault (examined (held view.now)) }
 {
-    if !counts_fit(view) {
-        return Some(fault_at(Code::OutOfRange, Spot::Nowhere));
-    }
-    if let Some(fault) = out_of_range(view) {
-        return Some(fault);
-    }
-    if let Some(fault) = overlapping(view) {
-        return Some(fault);
-    }
-    if let Some(fault) = disagreeing(view) {
-        return Some(fault);
-    }
-    misfilled(view)
+    let counted = Counted::new(view)?;
+    counted.out_of_range()?;
+    counted.overlapping()?;
+    counted.disagreeing()?;
+    counted.misfilled()
 }

@@ -5,5 +5,5 @@ pub mod examine;
 mod fill;
 pub mod find;
 mod show;
+mod slots;
 mod text;
-mod walk;

@@ -4,6 +4,7 @@ ghost use Rattle.utf8.specs.Table.{utf8_char};
 ghost use Rattle.utf8.specs.Texts.{Spelled};
 ghost use Rattle.document.specs.Slots.{place_of, byte_slot, text_slot, Filled};
 
+use crate::slots::fill_with;
 use block::kind::Kind;
 use block::slot::Slot;
 use utf8::character::length_at;
@@ -14,33 +15,29 @@ pub(crate) fn fill_bytes(start: u32, n: usize, slots: &mut [Slot])
     requires { (n ≤ length slots.old) × (start + n < 2 ^ 32) }
     ensures { Filled (byte_slot start) n slots.old slots.new }
 {
-    for k in 0..n {
-        slots[k] = Slot::Content {
+    fill_with(
+        n,
+        slots,
+        |k| Slot::Content {
             kind: Kind::Text,
             start: start + k as u32,
             len: 1,
-        };
-    }
+        },
+    );
 }
 
 // Where a character of a text begins.
 fn place_of(text: &[u8], index: usize) -> usize
     ensures { index < length (characters utf8_char text.now) → result ≡ place_of (characters utf8_char text.now) index }
 {
-    match locate(text, index) {
-        Some((at, _len)) => at,
-        None => 0,
-    }
+    locate(text, index).map_or(0, |(at, _len)| at)
 }
 
 // How many bytes the character has that begins here.
 fn length_here(text: &[u8], at: usize) -> usize
     ensures { (n : ℕ) → character_at utf8_char text.now at ≡ Ok n → result ≡ n }
 {
-    match length_at(text, at) {
-        Ok(length) => length,
-        Err(_) => 0,
-    }
+    length_at(text, at).unwrap_or(0)
 }
 
 // A slot for each character of a text, from a character on.
@@ -49,10 +46,11 @@ pub(crate) fn fill_characters(text: &[u8], start: u32, from: usize, n: usize, sl
     requires room { (n ≤ length slots.old) × ((from + n ≤ length (characters utf8_char text.now)) × (start + length text.now < 2 ^ 32)) }
     ensures { Filled (λ k. text_slot start (characters utf8_char text.now) (from + k)) n slots.old slots.new }
 {
+    // No `fill_with`: each character begins where the one before it ends.
     let mut at = place_of(text, from);
-    for k in 0..n {
+    for slot in slots[..n].iter_mut() {
         let len = length_here(text, at);
-        slots[k] = Slot::Content {
+        *slot = Slot::Content {
             kind: Kind::Text,
             start: start + at as u32,
             len: len as u32,

@@ -1,31 +1,31 @@
 -- An edit that is not refused has found its run.
-use Rattle.std.proofs.Common.{◌≡◌, ℕ, ◌<◌, Bool, true, false, cond, ltb, length, is_some, Some, None, Ok, Err, Option, Result, sym, refl, ap, ◌∙◌, arith}
-use Rattle.std.proofs.lemmas.Bool.{and_parts, not-false}
+use Rattle.std.proofs.Common.{◌≡◌, ℕ, ◌<◌, Bool, true, false, cond, ltb, length, is_some, Some, None, Ok, Err, Option, Result, sym, refl, ap, ◌∙◌}
+use Rattle.std.proofs.lemmas.Bool.{and_parts}
+use Rattle.std.proofs.lemmas.List.Quantifiers.{position-Some}
+use Rattle.std.specs.Option.{ok_or}
 use Rattle.block.specs.declared.fault.Fault.{Fault}
 use Rattle.block.specs.declared.ids.Id.{Id}
 use Rattle.store.specs.declared.tables.Tables.{Tables}
-use Rattle.store.specs.First.{failing}
-use Rattle.store.specs.FirstFacts.{found_within, found_fails}
 use Rattle.store.specs.Limits.{used}
-use Rattle.store.specs.Records.{Store, run_at}
+use Rattle.store.specs.Records.{Store, run_at, no_run}
 use Rattle.document.specs.Finds.{has}
 use Rattle.document.specs.Meaning.{clock_in}
-use Rattle.edit.specs.Aims.{table_fault, lists_unit, lists_unit_at, listed_run, or_refused, placed, unless, aimed, and_then, can_be_redone, unless_misplaced, redo_placed, redo_aimed}
+use Rattle.edit.specs.Aims.{table_fault, lists_unit, listed_run, placed, unless, aimed, and_then, can_be_redone, unless_misplaced, redo_placed, redo_aimed}
 
 unless_ok : (o : Option Fault) (r : Result ℕ Fault) (i : ℕ) → Ok i ≡ unless o r → (o ≡ None) × (r ≡ Ok i)
 unless_ok None r i h = (refl, sym h)
-unless_ok (Some f) r i h = let z : ◌≡◌ {A = ℕ} 0 1 = cc in absurd (omega arith)
+unless_ok (Some f) r i h = cc
 
-or_refused_ok : (o : Option ℕ) (f : Fault) (i : ℕ) → or_refused o f ≡ Ok i → o ≡ Some i
-or_refused_ok None f i h = let z : ◌≡◌ {A = ℕ} 0 1 = cc in absurd (omega arith)
-or_refused_ok (Some j) f i h = let e : j ≡ i = cc in ap Some e
+listed_ok : (o : Option ℕ) (f : Fault) (i : ℕ) → ok_or o f ≡ Ok i → o ≡ Some i
+listed_ok None f i h = cc
+listed_ok (Some j) f i h = let e : j ≡ i = cc in ap Some e
 
 same_ok : (j i : ℕ) → ◌≡◌ {A = Result ℕ Fault} (Ok j) (Ok i) → j ≡ i
 same_ok j i h = cc
 
 cond_ok : (b : Bool) (r : Result ℕ Fault) (f : Fault) (i : ℕ) → cond b r (Err f) ≡ Ok i → r ≡ Ok i
 cond_ok true r f i h = h
-cond_ok false r f i h = let z : ◌≡◌ {A = ℕ} 0 1 = cc in absurd (omega arith)
+cond_ok false r f i h = cc
 
 pub record Placed (s : Store) (id : Id) (i : ℕ) : Type 0 where
   pub within : i < length s.runs
@@ -34,10 +34,10 @@ pub record Placed (s : Store) (id : Id) (i : ℕ) : Type 0 where
 
 pub placed_ok : (s : Store) (id : Id) (i : ℕ) → placed s id ≡ Ok i → Placed s id i
 placed_ok s id i h =
-    let e : listed_run s id ≡ Some i = or_refused_ok (listed_run s id) _ i (cond_ok (ltb id.clock (clock_in s.clients id.client)) _ _ i h) in
-    let t : lists_unit id (run_at s i) ≡ true = not-false (lists_unit id (run_at s i)) (found_fails (failing (lists_unit_at s id)) (length s.runs) i e) in
-    let p = and_parts (is_some (run_at s i).list) (has id (run_at s i)) t in
-    record { within = found_within (failing (lists_unit_at s id)) (length s.runs) i e; listed = p.0; there = p.1 }
+    let e : listed_run s id ≡ Some i = listed_ok (listed_run s id) _ i (cond_ok (ltb id.clock (clock_in s.clients id.client)) _ _ i h) in
+    let f = position-Some (lists_unit id) s.runs i no_run e in
+    let p = and_parts (is_some (run_at s i).list) (has id (run_at s i)) f.1 in
+    record { within = f.0; listed = p.0; there = p.1 }
 
 pub record Aimed (t : Tables) (id : Id) (i : ℕ) : Type 0 where
   pub examined : table_fault t ≡ None
@@ -50,7 +50,7 @@ aimed_ok t id i h =
 
 and_then_ok : (r : Result ℕ Fault) (k : ℕ → Result ℕ Fault) (i : ℕ) → and_then r k ≡ Ok i → (j : ℕ) × (r ≡ Ok j) × (k j ≡ Ok i)
 and_then_ok (Ok j) k i h = (j, refl, h)
-and_then_ok (Err f) k i h = let z : ◌≡◌ {A = ℕ} 0 1 = cc in absurd (omega arith)
+and_then_ok (Err f) k i h = cc
 
 -- the run and that of its successor
 pub record RedoAimed (t : Tables) (id next : Id) (i : ℕ) : Type 0 where

@@ -1,6 +1,6 @@
 -- A new document passes examination, and has no units.
-use Rattle.std.proofs.Common.{◌≡◌, ℕ, zero, suc, ◌+◌, ◌<◌, ◌≤◌, true, cond, ◌&&◌, ltb, leb, List, [], ◌∷◌, ◌++◌, length, get_or, drop, set, replicate, None, sym, refl, ap, ◌∙◌, subst, append_assoc, arith, length-append, length-drop}
-use Rattle.std.proofs.lemmas.List.{set_at, drop_more, replicate_more, take_at, length-replicate}
+use Rattle.std.proofs.Common.{◌≡◌, ℕ, zero, suc, ◌<◌, ◌≤◌, true, cond, ◌&&◌, ltb, leb, List, [], length, get_or, drop, replicate, None, sym, refl, ap, ◌∙◌, subst, arith, length-append, length-drop}
+use Rattle.std.proofs.lemmas.List.{take_at, length-replicate}
 use Rattle.std.proofs.lemmas.Bool.{and_parts, and_from, le-leb, leb-true, ltb-true, cond-true}
 use Rattle.store.specs.declared.records.ListRecord.{ListRecord}
 use Rattle.store.specs.Limits.{count_fits}
@@ -14,14 +14,6 @@ use Rattle.edit.specs.Creation.{root_fault, rooted, created, Blank}
 use Rattle.edit.specs.Edits.{Contents}
 use Rattle.edit.proofs.Uses.{none_parts, used_of, counted_of, fault_in}
 use Rattle.edit.proofs.Verdicts.{no_fault}
-
--- one root more
-pub rooted_more : (hs : List ListRecord) (n : ℕ) → n < length hs → set (rooted hs n) n no_list ≡ rooted hs (n + 1)
-rooted_more hs n lt =
-    ap (λ (t : List ListRecord). set (replicate n no_list ++ t) n no_list) (drop_more hs n no_list lt)
-    ∙ set_at (replicate n no_list) (get_or hs n no_list) (drop (n + 1) hs) no_list n (length-replicate n no_list)
-    ∙ sym (append_assoc (replicate n no_list) (no_list ∷ []) (drop (n + 1) hs))
-    ∙ ap (λ (t : List ListRecord). t ++ drop (n + 1) hs) (replicate_more n no_list)
 
 pub rooted_length : (hs : List ListRecord) (n : ℕ) → n ≤ length hs → length (rooted hs n) ≡ length hs
 rooted_length hs n le = let a = length-append (replicate n no_list) (drop n hs) in let b = length-replicate n no_list in let c = length-drop n hs in omega (arith, a, b, c)

@@ -20,7 +20,7 @@ use Rattle.edit.proofs.Touches.{worth_still, turns}
 use Rattle.edit.proofs.Uses.{used_of, fault_in, run_same}
 
 pub some_value : (o : Option ℕ) → is_some o ≡ true → o ≡ Some (unwrap_or o 0)
-some_value None h = let z : ◌≡◌ {A = ℕ} 0 1 = cc in absurd (omega arith)
+some_value None h = cc
 some_value (Some n) h = refl
 
 pub death_step : (s : Store) → Passing s → (i : ℕ) → i < length s.runs → is_some (run_at s i).list ≡ true → Step (meaning_of s) (death s i) (meaning_of (tombstoned s i))

@@ -1,8 +1,8 @@
 -- A change of one run's life or successor, in units.
-use Rattle.std.proofs.Common.{◌≡◌, ℕ, zero, suc, ◌+◌, ◌-◌, ◌<◌, ◌≤◌, cond, eqb, leb, ◌≢◌, List, [], ◌∷◌, ◌++◌, map, length, get_or, take, drop, set, Some, None, Option, unwrap_or, sym, refl, ap, ◌∙◌, subst, ⊎_elim, append_assoc, arith, length-append}
+use Rattle.std.proofs.Common.{◌≡◌, ℕ, zero, suc, ◌+◌, ◌-◌, ◌<◌, ◌≤◌, cond, ◌≢◌, List, [], ◌∷◌, ◌++◌, map, length, get_or, take, drop, set, Some, None, Option, unwrap_or, sym, refl, ap, ◌∙◌, subst, ⊎_elim, append_assoc, arith, length-append}
 use Rattle.std.specs.List.{range_with_len}
 use Rattle.std.proofs.lemmas.List.{map-append, get_or_past, get_or-take, get_or-drop, take_at, drop_at, length-take-le, length-drop}
-use Rattle.std.proofs.lemmas.Bool.{cases_eq, cases_lt, cases_Bool, eq-eqb, le-leb, lt-ltb, and_from, cond-true, cond-false}
+use Rattle.std.proofs.lemmas.Bool.{cases_eq, cases_lt, cases_Bool, cond-true, cond-false}
 use Rattle.block.specs.Units.{UnitOf, no_unit, nested}
 use Rattle.block.specs.declared.ids.Id.{Id}
 use Rattle.block.specs.declared.kind.Kind.{Kind}
@@ -13,7 +13,7 @@ use Rattle.store.specs.First.{first_bad, failing}
 use Rattle.store.specs.Records.{Store, run_at, list_at, no_run}
 use Rattle.links.specs.Links.{is_id}
 use Rattle.document.specs.Finds.{has}
-use Rattle.document.specs.LawFacts.{has_is, lawful_is}
+use Rattle.document.specs.LawFacts.{has_is, has_from, lawful_is}
 use Rattle.document.specs.LengthFacts.{Stands, near, long_U}
 use Rattle.document.specs.Meaning.{entry_worth, character_worth, list_held, worth_of, unit_of, units_of, spell, units_in, meaning_of, offset}
 use Rattle.document.specs.ReadingFacts.{unit_in}
@@ -75,7 +75,7 @@ module _ (s : Store) (sd : Sound s) (i : ℕ) (lt : i < length s.runs) (l x : �
   unfolding touch
   hit k h =
       let q : RunRecord = run_at s i in
-      cond-true (has (unit_of s q k).id q) _ _ (and_from (eqb q.id.client q.id.client) _ (eq-eqb _ _ refl) (and_from (leb q.id.clock (q.id.clock + k)) _ (le-leb _ _ (omega arith)) (lt-ltb _ _ (omega arith))))
+      cond-true (has (unit_of s q k).id q) _ _ (has_from (unit_of s q k).id q (record { client = refl; from = omega arith; to = omega arith }))
 
   missed : (k j : ℕ) → k ≢ i → k < length s.runs → j < (run_at s k).len → touch (unit_of s (run_at s k) j) ≡ unit_of s (run_at s k) j
   unfolding touch

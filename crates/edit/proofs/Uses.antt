@@ -28,7 +28,7 @@ fault_in c = cond (counted_of c) (examined (used_of c)) (Some (fault_at OutOfRan
 
 pub none_parts : (b : Bool) (o : Option Fault) (f : Fault) → cond b o (Some f) ≡ None → (b ≡ true) × (o ≡ None)
 none_parts true o f h = (refl, h)
-none_parts false o f h = let z : ◌≡◌ {A = ℕ} 0 1 = cc in absurd (omega arith)
+none_parts false o f h = cc
 
 take_set : {X : Type 0} (n : ℕ) (xs : List X) (i : ℕ) (v : X) → take n (set xs i v) ≡ set (take n xs) i v
 take_set zero xs i v = refl

@@ -1,16 +1,17 @@
 -- Tables whose records pass their tests have no fault.
 use Rattle.std.proofs.Common.{◌≡◌, ℕ, None, Option, refl}
 use Rattle.std.proofs.lemmas.Bool.{cond-true}
+use Rattle.std.specs.Option.{option_or}
 use Rattle.block.specs.declared.fault.Code.{Code}
 use Rattle.block.specs.declared.fault.Fault.{Fault}
 use Rattle.block.specs.declared.fault.Spot.{Spot}
 use Rattle.store.specs.FirstFacts.{all_none}
 use Rattle.store.specs.Limits.{counts_fit}
 use Rattle.store.specs.Records.{Store}
-use Rattle.document.specs.Examined.{report, either, crowded, out_of_range, overlapping, disagreeing, misfilled, examined}
+use Rattle.document.specs.Examined.{report, crowded, out_of_range, overlapping, disagreeing, misfilled, examined}
 use Rattle.document.specs.PassingFacts.{Passing}
 
-either_from : (a b : Option Fault) → a ≡ None → b ≡ None → either a b ≡ None
+either_from : (a b : Option Fault) → a ≡ None → b ≡ None → option_or a b ≡ None
 either_from a b e f = rw e f
 
 report_from : (k : Code) (t : ℕ → Spot) (o : Option ℕ) (rest : Option Fault) → o ≡ None → rest ≡ None → report k t o rest ≡ None

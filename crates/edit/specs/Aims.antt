@@ -1,5 +1,6 @@
 -- What an edit looks for before it changes anything, and how it refuses.
-use Rattle.std.specs.Prelude.{◌≡◌, ℕ, Bool, cond, not, ◌&&◌, length, is_some, Some, None, Ok, Err, Option, Result, nat_lt}
+use Rattle.std.specs.Prelude.{◌≡◌, ℕ, Bool, cond, not, ◌&&◌, is_some, Some, None, Ok, Err, Option, Result, nat_lt, position}
+use Rattle.std.specs.Option.{ok_or}
 use Rattle.block.specs.declared.fault.Code.{Code}
 use Rattle.block.specs.declared.fault.Code.TheVariants.{OutOfRange, NotKnown, NotListed, Misplaced}
 use Rattle.block.specs.declared.fault.Fault.{Fault}
@@ -10,7 +11,6 @@ use Rattle.block.specs.declared.ids.Id.{Id}
 use Rattle.store.specs.declared.records.RunRecord.{RunRecord}
 use Rattle.store.specs.declared.records.View.{View}
 use Rattle.store.specs.declared.tables.Tables.{Tables}
-use Rattle.store.specs.First.{first_bad, failing}
 use Rattle.store.specs.Limits.{is_counted, used}
 use Rattle.store.specs.Records.{Store, held, run_at}
 use Rattle.store.specs.Refusals.{fault_at}
@@ -34,20 +34,13 @@ Passed t (Err f) = table_fault t ≡ Some f
 abbrev pub lists_unit : Id → RunRecord → Bool
 lists_unit id r = is_some r.list && has id r
 
-abbrev pub lists_unit_at : Store → Id → ℕ → Bool
-lists_unit_at s id i = lists_unit id (run_at s i)
-
 -- the run of a list that has the unit
 abbrev pub listed_run : Store → Id → Option ℕ
-listed_run s id = first_bad (failing (lists_unit_at s id)) (length s.runs)
-
-abbrev pub or_refused : Option ℕ → Fault → Result ℕ Fault
-or_refused (Some i) f = Ok i
-or_refused None f = Err f
+listed_run s id = position (lists_unit id) s.runs
 
 -- that run, or why there is none: its clock is not known, or no list has it
 abbrev pub placed : Store → Id → Result ℕ Fault
-placed s id = cond (nat_lt id.clock (clock_in s.clients id.client)) (or_refused (listed_run s id) (fault_of NotListed (Unit id))) (Err (fault_of NotKnown (Unit id)))
+placed s id = cond (nat_lt id.clock (clock_in s.clients id.client)) (ok_or (listed_run s id) (fault_of NotListed (Unit id))) (Err (fault_of NotKnown (Unit id)))
 
 abbrev pub unless : {A : Type 0} → Option Fault → Result A Fault → Result A Fault
 unless (Some f) r = Err f

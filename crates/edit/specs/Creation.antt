@@ -1,5 +1,5 @@
 -- A new document: so many roots, and no runs.
-use Rattle.std.specs.Prelude.{◌≡◌, ℕ, cond, ◌&&◌, List, [], ◌++◌, drop, replicate, Some, None, Ok, Err, Option, Result, nat_le, nat_lt}
+use Rattle.std.specs.Prelude.{◌≡◌, ℕ, cond, ◌&&◌, List, [], ◌++◌, drop, replicate, Some, None, Option, nat_le, nat_lt}
 use Rattle.block.specs.Units.{Meaning}
 use Rattle.block.specs.declared.fault.Code.TheVariants.{OutOfRange, LimitPassed}
 use Rattle.block.specs.declared.fault.Fault.{Fault}
@@ -19,11 +19,7 @@ rooted hs n = replicate n no_list ++ drop n hs
 
 abbrev pub created : Contents → ℕ → Option Fault → Contents
 created c n (Some f) = c
-created c n None = record { all = record { runs = c.all.runs; lists = rooted c.all.lists n; clients = c.all.clients; entries = c.all.entries; bytes = c.all.bytes }; run_count = 0; list_count = n; client_count = 0; entry_count = 0; byte_count = 0 }
-
-abbrev pub unless_fault : Option Fault → Result (Unit {0}) Fault
-unless_fault (Some f) = Err f
-unless_fault None = Ok tt
+created c n None = record { all = record c.all { lists = rooted c.all.lists n }; run_count = 0; list_count = n; client_count = 0; entry_count = 0; byte_count = 0 }
 
 -- so many roots, no units, and no client known
 pub record Blank (n : ℕ) (m : Meaning) : Type 0 where

@@ -18,22 +18,22 @@ pub record Contents : Type 0 where
   pub byte_count : ℕ
 
 abbrev pub all_of : Tables → Contents
-all_of t = record { all = record { runs = t.runs.now; lists = t.lists.now; clients = t.clients.now; entries = t.entries.now; bytes = t.bytes.now }; run_count = t.run_count; list_count = t.list_count; client_count = t.client_count; entry_count = t.entry_count; byte_count = t.byte_count }
+all_of t = record { all = record { runs = t.runs.records.now; lists = t.lists.records.now; clients = t.clients.records.now; entries = t.entries.records.now; bytes = t.bytes.records.now }; run_count = t.runs.count; list_count = t.lists.count; client_count = t.clients.count; entry_count = t.entries.count; byte_count = t.bytes.count }
 
 -- the records after an edit of those before, and the same counts
 abbrev pub with_all : Contents → Store → Contents
-with_all c s = record { all = s; run_count = c.run_count; list_count = c.list_count; client_count = c.client_count; entry_count = c.entry_count; byte_count = c.byte_count }
+with_all c s = record c { all = s }
 
 -- a run's record and the lists' records, replaced
 abbrev pub replaced : Store → ℕ → RunRecord → List ListRecord → Store
-replaced s i r hs = record { runs = slice_set s.runs i r; lists = hs; clients = s.clients; entries = s.entries; bytes = s.bytes }
+replaced s i r hs = record s { runs = slice_set s.runs i r; lists = hs }
 
 -- a run that is made dead
 abbrev pub killed : RunRecord → RunRecord
-killed r = record { id = r.id; len = r.len; kind = r.kind; live = false; list = r.list; left = r.left; right = r.right; redone = r.redone; entry = r.entry }
+killed r = record r { live = false }
 
 abbrev pub shorter : ListRecord → ℕ → ListRecord
-shorter h n = record { start = h.start; holder = h.holder; len = h.len - n }
+shorter h n = record h { len = h.len - n }
 
 -- a list's stored length, lowered
 abbrev pub lowered : List ListRecord → Option ℕ → ℕ → List ListRecord
@@ -46,7 +46,7 @@ tombstoned s i = replaced s i (killed (run_at s i)) (lowered s.lists (run_at s i
 
 -- a run that is given a successor
 abbrev pub succeeded : Id → RunRecord → RunRecord
-succeeded next r = record { id = r.id; len = r.len; kind = r.kind; live = r.live; list = r.list; left = r.left; right = r.right; redone = Some next; entry = r.entry }
+succeeded next r = record r { redone = Some next }
 
 -- run i has this successor
 abbrev pub redone_by : Id → Store → ℕ → Store

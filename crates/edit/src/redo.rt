@@ -3,58 +3,41 @@ ghost use Rattle.store.specs.Limits.{used};
 ghost use Rattle.store.specs.Records.{held};
 ghost use Rattle.document.specs.Meaning.{meaning_of};
 ghost use Rattle.history.specs.Events.{Step};
-ghost use Rattle.edit.specs.Aims.{can_be_redone, unless_misplaced, redo_placed, redo_aimed, table_fault};
+ghost use Rattle.edit.specs.Aims.{redo_placed, redo_aimed, table_fault};
 ghost use Rattle.edit.specs.Edits.{all_of, with_all, redone_by, edited, answer};
 ghost use Rattle.edit.specs.Happenings.{renewal, happened};
 
 use crate::aim::{fault_of, passed, placed};
 use block::fault::{Code, Fault, Spot};
 use block::ids::Id;
-use store::records::{RunRecord, View};
+use store::records::View;
 use store::tables::Tables;
 
-fn can_be_redone(run: RunRecord) -> bool
-    ensures { result ≡ can_be_redone run }
-{
-    !run.live && run.redone.is_none()
-}
-
-fn unless_misplaced(view: &View<'_>, id: Id, i: usize) -> Result<usize, Fault>
-    ensures { result ≡ unless_misplaced (held view.now) id i }
-{
-    if can_be_redone(view.run(i)) {
-        Ok(i)
-    } else {
-        Err(fault_of(Code::Misplaced, Spot::Unit(id)))
-    }
-}
-
+// The run that gets a successor; refused where it is live, or has one.
 fn redo_placed(view: &View<'_>, id: Id, successor: Id) -> Result<usize, Fault>
     ensures { result ≡ redo_placed (held view.now) id successor }
 {
-    match placed(view, id) {
-        Err(fault) => Err(fault),
-        Ok(i) => match placed(view, successor) {
-            Err(fault) => Err(fault),
-            Ok(_j) => unless_misplaced(view, id, i),
-        },
+    let i = placed(view, id)?;
+    placed(view, successor)?;
+    let run = view.run(i);
+    if run.live || run.redone.is_some() {
+        return Err(fault_of(Code::Misplaced, Spot::Unit(id)));
     }
+    Ok(i)
 }
 
 fn redo_aim(tables: &Tables<'_>, id: Id, successor: Id) -> Result<usize, Fault>
     ensures { result ≡ redo_aimed tables.now id successor }
 {
-    match passed(tables) {
-        Err(fault) => Err(fault),
-        Ok(view) => redo_placed(&view, id, successor),
-    }
+    let view = passed(tables)?;
+    redo_placed(&view, id, successor)
 }
 
 fn renew(tables: &mut Tables<'_>, i: usize, successor: Id)
     requires { i < length (all_of tables.old).all.runs }
     ensures { all_of tables.new ≡ with_all (all_of tables.old) (redone_by successor (all_of tables.old).all i) }
 {
-    tables.runs[i].redone = Some(successor);
+    tables.runs.records[i].redone = Some(successor);
 }
 
 // The dead run of the unit has this successor from now on.
@@ -64,11 +47,7 @@ pub fn redo(tables: &mut Tables<'_>, id: Id, successor: Id) -> Result<(), Fault>
     ensures examined { is_ok result ≡ true → table_fault tables.new ≡ None }
     ensures step { Step (meaning_of (used tables.old)) (happened (renewal successor) (used tables.old) (redo_aimed tables.old id successor)) (meaning_of (used tables.new)) }
 {
-    match redo_aim(tables, id, successor) {
-        Err(fault) => Err(fault),
-        Ok(i) => {
-            renew(tables, i, successor);
-            Ok(())
-        }
-    }
+    let i = redo_aim(tables, id, successor)?;
+    renew(tables, i, successor);
+    Ok(())
 }

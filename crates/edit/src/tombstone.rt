@@ -18,10 +18,10 @@ fn kill(tables: &mut Tables<'_>, i: usize)
     requires within { i < length (used tables.old).runs }
     ensures { all_of tables.new ≡ with_all (all_of tables.old) (tombstoned (all_of tables.old).all i) }
 {
-    let run = tables.runs[i];
-    tables.runs[i].live = false;
+    let run = tables.runs.records[i];
+    tables.runs.records[i].live = false;
     if let Some(l) = run.list {
-        tables.lists[l as usize].len -= weight(run);
+        tables.lists.records[l as usize].len -= weight(run);
     }
 }
 
@@ -33,11 +33,7 @@ pub fn tombstone(tables: &mut Tables<'_>, id: Id) -> Result<(), Fault>
     ensures examined { is_ok result ≡ true → table_fault tables.new ≡ None }
     ensures step { Step (meaning_of (used tables.old)) (happened death (used tables.old) (aimed tables.old id)) (meaning_of (used tables.new)) }
 {
-    match aim(tables, id) {
-        Err(fault) => Err(fault),
-        Ok(i) => {
-            kill(tables, i);
-            Ok(())
-        }
-    }
+    let i = aim(tables, id)?;
+    kill(tables, i);
+    Ok(())
 }

@@ -2,7 +2,6 @@
 use Rattle.std.specs.Prelude.{◌≡◌, ℕ, zero, suc, true, cond, List, [], ◌∷◌, ◌++◌, length, None, Ok, Err, ◌==◌}
 use Rattle.block.specs.declared.ids.Id.{Id}
 use Rattle.block.specs.declared.call.Call.TheVariants.{Read}
-use Rattle.block.specs.declared.call.Outcome.TheVariants.{Refused}
 use Rattle.block.specs.declared.fault.Code.TheVariants.{BeyondLength, NotKnown}
 use Rattle.block.specs.declared.fault.Spot.TheVariants as spots
 use Rattle.block.specs.declared.kind.Kind.TheVariants.{Text}
@@ -84,4 +83,4 @@ pub record Table : Type 0 where
   pub after_tombstone : offset_of 0 shorter (mark 5 2 After) ≡ Ok (stop 0 After 0)
   -- read 3, and read 4
   pub read_3 : (plain_run 0 (seen (small.units 0)) (Read 3 ∷ [])).shown ≡ a ∷ b ∷ c ∷ []
-  pub read_4 : (plain_run 0 (seen (small.units 0)) (Read 4 ∷ [])).outcomes ≡ Refused (too_far 0) ∷ []
+  pub read_4 : (plain_run 0 (seen (small.units 0)) (Read 4 ∷ [])).outcomes ≡ Err (too_far 0) ∷ []

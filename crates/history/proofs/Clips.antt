@@ -1,6 +1,6 @@
 -- What a pile of clips leaves.
-use Rattle.std.proofs.Common.{◌≡◌, ℕ, ◌+◌, ◌<◌, ◌≤◌, Bool, true, false, cond, not, ◌&&◌, ltb, List, [], ◌∷◌, ◌++◌, map, length, get_or, take, Some, None, filter, Option, sym, refl, ap, ◌∙◌, inl, inr, arith}
-use Rattle.std.proofs.lemmas.List.{map_more}
+use Rattle.std.proofs.Common.{◌≡◌, ℕ, ◌+◌, ◌≤◌, Bool, true, false, cond, not, ◌&&◌, ltb, List, [], ◌∷◌, ◌++◌, map, length, Some, filter, Option, sym, refl, ap, ◌∙◌, inl, inr, arith}
+use Rattle.std.proofs.lemmas.List.{map-append}
 use Rattle.std.proofs.lemmas.Bool.{cases_Bool, cond-true, cond-false, ltb-false, and_cases, both_ways}
 use Rattle.block.specs.declared.ids.Id.{Id}
 use Rattle.block.specs.Units.{Meaning, Lawful, UnitOf}
@@ -50,18 +50,14 @@ under_more (g ∷ gs) f m = ap (clipped g) (under_more gs f m)
 abbrev pub ShowsPile : Option Pairs → List (ℕ → ℕ) → Type 0
 ShowsPile all limits = (m : Meaning) → laid all m ≡ under limits m
 
--- the clips up to place i are in the table, and now the one there
-module _ (cs : List Pairs) (i : ℕ) (c : Pairs) (inside : i < length cs) (here : c ≡ get_or cs i c) where
-  pile_turn : (all : Option Pairs) → ((m : Meaning) → laid all m ≡ under (map limit_of (take i cs)) (clipped (limit_of c) m)) → ShowsPile all (map limit_of (take (i + 1) cs))
-  pile_turn all h m =
-      let next : map limit_of (take (i + 1) cs) ≡ map limit_of (take i cs) ++ limit_of c ∷ [] = map_more limit_of cs i c inside ∙ ap (λ (x : Pairs). map limit_of (take i cs) ++ limit_of x ∷ []) (sym here) in
-      h m ∙ sym (under_more (map limit_of (take i cs)) (limit_of c) m) ∙ ap (λ (fs : List (ℕ → ℕ)). under fs m) (sym next)
+-- one clip alone
+pub pile_first : (c : Pairs) → ShowsPile (Some c) (map limit_of (c ∷ []))
+pile_first c m = refl
 
-  pub pile_first : ShowsPile None (map limit_of (take i cs)) → ShowsPile (Some c) (map limit_of (take (i + 1) cs))
-  pile_first h = pile_turn (Some c) (λ m. h (clipped (limit_of c) m))
-
-  pub pile_next : (top all : Pairs) → Joined top c all → ShowsPile (Some top) (map limit_of (take i cs)) → ShowsPile (Some all) (map limit_of (take (i + 1) cs))
-  pile_next top all j h = pile_turn (Some all) (λ m. j.piled m ∙ h (clipped (limit_of c) m))
+-- a table of a pile, joined with the clip that stands below
+pub pile_more : (cs : List Pairs) (all c both : Pairs) → Joined all c both → ShowsPile (Some all) (map limit_of cs) → ShowsPile (Some both) (map limit_of (cs ++ c ∷ []))
+pile_more cs all c both j h m =
+    j.piled m ∙ h (clipped (limit_of c) m) ∙ sym (under_more (map limit_of cs) (limit_of c) m) ∙ ap (λ (fs : List (ℕ → ℕ)). under fs m) (sym (map-append limit_of cs (c ∷ [])))
 
 -- a filter that keeps the unit with this id
 module _ (id : Id) (p : UnitOf → Bool) (keeps : (u : UnitOf) → same_id u.id id ≡ true → p u ≡ true) where

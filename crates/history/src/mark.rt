@@ -12,7 +12,7 @@ use block::fault::Fault;
 use block::ids::Id;
 use clip::pairs::Pairs;
 use reader::reader::Reader;
-use sticky_index::index::{Assoc, IndexScope, Offset, StickyIndex};
+use sticky_index::index::{Assoc, Offset, StickyIndex};
 
 // Where a mark on a unit has moved to, in any document: a pile of clips over the end of any history.
 pub fn moved<R: Reader>(reader: &R, id: Id, assoc: Assoc) -> Result<Offset, Fault>
@@ -20,11 +20,7 @@ pub fn moved<R: Reader>(reader: &R, id: Id, assoc: Assoc) -> Result<Offset, Faul
     ensures moves { (o : Meaning) (limits : List (ℕ → ℕ)) → R.Reader.meaning reader.now ≡ under limits o → Moves o limits id assoc result }
     ensures lasts { UnitsLast }
 {
-    StickyIndex {
-        scope: IndexScope::Relative(id),
-        assoc,
-    }
-    .get_offset(reader)
+    StickyIndex::from_id(id, assoc).get_offset(reader)
 }
 
 // The same under clips that are laid on a reader, the first as the topmost.

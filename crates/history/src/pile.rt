@@ -9,12 +9,6 @@ use clip::pairs::Pairs;
 pub(crate) fn join_all(clips: &[Pairs]) -> Option<Pairs>
     ensures { (m : Meaning) → laid result m ≡ under (map limit_of clips.now) m }
 {
-    let mut all = None;
-    for c in clips {
-        all = match all {
-            None => Some(*c),
-            Some(top) => Some(top.join(*c)),
-        };
-    }
-    all
+    let (first, rest) = clips.split_first()?;
+    Some(rest.iter().fold(*first, |all, table| all.join(*table)))
 }

@@ -1,37 +1,25 @@
+use crate::trouble::Trouble;
 use block::ids::Id;
 use block::kind::Kind;
-use std::alloc::{AllocError, AllocFailed, Global};
-use store::records::{ClientRecord, EntryRecord, ListRecord, RunRecord};
+use std::alloc::Global;
+use std::collections::BTreeMap;
+use store::records::{ClientRecord, EntryRecord, ListRecord, RunRecord, View};
 
-// Why a line was not taken.
-#[derive(Drop)]
-pub(crate) enum Trouble {
-    Memory,
-    Line(&'static str),
-}
-
-impl From<AllocError> for Trouble {
-    fn from(_e: AllocError) -> Trouble {
-        Trouble::Memory
-    }
-}
-
-impl<T: Drop> From<AllocFailed<T>> for Trouble {
-    fn from(_e: AllocFailed<T>) -> Trouble {
-        Trouble::Memory
-    }
+// A number of records, if it fits 32 bits.
+fn small(count: usize, reason: &'static str) -> Result<u32, Trouble> {
+    u32::try_from(count).map_err(|_| Trouble::Line(reason))
 }
 
 // Tables that are filled line by line.
 #[derive(Drop)]
 pub(crate) struct Store {
-    pub(crate) runs: Vec<RunRecord>,
-    pub(crate) lists: Vec<ListRecord>,
-    pub(crate) clients: Vec<ClientRecord>,
-    pub(crate) entries: Vec<EntryRecord>,
-    pub(crate) bytes: Vec<u8>,
-    // the rightmost run of each list
-    ends: Vec<Option<u32>>,
+    runs: Vec<RunRecord>,
+    lists: Vec<ListRecord>,
+    clients: Vec<ClientRecord>,
+    entries: Vec<EntryRecord>,
+    bytes: Vec<u8>,
+    // the rightmost run of each list that has runs
+    ends: BTreeMap<u32, u32>,
 }
 
 impl Store {
@@ -42,7 +30,18 @@ impl Store {
             clients: Vec::new(heap),
             entries: Vec::new(heap),
             bytes: Vec::new(heap),
-            ends: Vec::new(heap),
+            ends: BTreeMap::new(heap),
+        }
+    }
+
+    // The tables, lent.
+    pub(crate) fn view(&self) -> View<'_> {
+        View {
+            runs: self.runs.as_slice(),
+            lists: self.lists.as_slice(),
+            clients: self.clients.as_slice(),
+            entries: self.entries.as_slice(),
+            bytes: self.bytes.as_slice(),
         }
     }
 
@@ -53,16 +52,13 @@ impl Store {
             holder,
             len: 0,
         })?;
-        self.ends.push(None)?;
         Ok(())
     }
 
     // A new entry with these bytes.
     fn add_entry(&mut self, bytes: &[u8]) -> Result<(), Trouble> {
-        let (Ok(start), Ok(len)) = (u32::try_from(self.bytes.len()), u32::try_from(bytes.len()))
-        else {
-            return Err(Trouble::Line("too many bytes"));
-        };
+        let start = small(self.bytes.len(), "too many bytes")?;
+        let len = small(bytes.len(), "too many bytes")?;
         self.bytes.extend_from_slice(bytes)?;
         self.entries.push(EntryRecord { start, len })?;
         Ok(())
@@ -71,25 +67,20 @@ impl Store {
     // Stores the content of a run, and says how many units it has.
     fn add_content(&mut self, kind: Kind, content: &str) -> Result<u32, Trouble> {
         match kind {
-            Kind::Gc | Kind::Deleted | Kind::Skip => match content.parse::<u32>() {
-                Ok(n) => Ok(n),
-                Err(_) => Err(Trouble::Line("this kind wants a count")),
-            },
+            Kind::Gc | Kind::Deleted | Kind::Skip => content
+                .parse::<u32>()
+                .ok()
+                .ok_or(Trouble::Line("this kind wants a count")),
             Kind::List => Ok(1),
             Kind::Text => {
                 self.add_entry(content.as_bytes())?;
-                match u32::try_from(content.chars().count()) {
-                    Ok(n) => Ok(n),
-                    Err(_) => Err(Trouble::Line("too long")),
-                }
+                small(content.chars().count(), "too long")
             }
             Kind::Json | Kind::Any => {
-                let mut n = 0u32;
                 for part in content.split('|') {
                     self.add_entry(part.trim().as_bytes())?;
-                    n = n.saturating_add(1);
                 }
-                Ok(n)
+                small(content.split('|').count(), "too long")
             }
             Kind::Binary | Kind::Embed | Kind::Format | Kind::Doc => {
                 self.add_entry(content.as_bytes())?;
@@ -100,16 +91,17 @@ impl Store {
 
     // The client's known clock grows to this clock.
     fn know(&mut self, client: u64, clock: u32) -> Result<(), Trouble> {
-        for record in self.clients.iter_mut() {
-            if record.client == client {
-                record.known = record.known.max(clock);
-                return Ok(());
-            }
+        match self
+            .clients
+            .iter_mut()
+            .find(|record| record.client == client)
+        {
+            Some(record) => record.known = record.known.max(clock),
+            None => self.clients.push(ClientRecord {
+                client,
+                known: clock,
+            })?,
         }
-        self.clients.push(ClientRecord {
-            client,
-            known: clock,
-        })?;
         Ok(())
     }
 
@@ -122,25 +114,18 @@ impl Store {
         live: bool,
         content: &str,
     ) -> Result<(), Trouble> {
-        let (Ok(here), Ok(entry)) = (
-            u32::try_from(self.runs.len()),
-            u32::try_from(self.entries.len()),
-        ) else {
-            return Err(Trouble::Line("too many runs"));
-        };
-        let left = match list {
-            None => None,
-            Some(l) => match self.ends.get(l as usize) {
-                None => return Err(Trouble::Line("no such list")),
-                Some(end) => *end,
-            },
-        };
+        let here = small(self.runs.len(), "too many runs")?;
+        let entry = small(self.entries.len(), "too many runs")?;
+        if list.is_some_and(|l| l as usize >= self.lists.len()) {
+            return Err(Trouble::Line("no such list"));
+        }
+        let left = list.and_then(|l| self.ends.get(&l).copied());
         let len = self.add_content(kind, content)?;
         self.know(id.client, id.clock.saturating_add(len))?;
         self.runs.push(RunRecord {
             id,
             len,
-            kind: kind.number(),
+            kind: u8::from(kind),
             live,
             list,
             left,
@@ -148,44 +133,34 @@ impl Store {
             redone: None,
             entry,
         })?;
-        self.attach(
-            list,
-            left,
-            here,
-            if live && kind.is_countable() { len } else { 0 },
-        );
+        let Some(l) = list else {
+            return Ok(());
+        };
+        self.ends.insert(l, here)?;
+        let visible = if live && kind.is_countable() { len } else { 0 };
+        self.attach(l, left, here, visible);
         Ok(())
     }
 
     // Joins a new run to its left neighbour or its list, and counts its visible units.
-    fn attach(&mut self, list: Option<u32>, left: Option<u32>, here: u32, visible: u32) {
-        let Some(l) = list else {
-            return;
-        };
-        if let Some(end) = self.ends.get_mut(l as usize) {
-            *end = Some(here);
-        }
-        if let Some(record) = self.lists.get_mut(l as usize) {
+    fn attach(&mut self, list: u32, left: Option<u32>, here: u32, visible: u32) {
+        if let Some(record) = self.lists.get_mut(list as usize) {
             record.len = record.len.saturating_add(visible);
-            if left.is_none() {
-                record.start = Some(here);
-            }
+            record.start = record.start.or(Some(here));
         }
-        if let Some(i) = left {
-            if let Some(run) = self.runs.get_mut(i as usize) {
-                run.right = Some(here);
-            }
+        if let Some(run) = left.and_then(|i| self.runs.get_mut(i as usize)) {
+            run.right = Some(here);
         }
     }
 
     // The run that begins with this unit gets a successor.
     pub(crate) fn redo(&mut self, id: Id, successor: Id) -> Result<(), Trouble> {
-        for run in self.runs.iter_mut() {
-            if run.id.client == id.client && run.id.clock == id.clock {
-                run.redone = Some(successor);
-                return Ok(());
-            }
-        }
-        Err(Trouble::Line("no run begins with this unit"))
+        let run = self
+            .runs
+            .iter_mut()
+            .find(|run| run.id == id)
+            .ok_or(Trouble::Line("no run begins with this unit"))?;
+        run.redone = Some(successor);
+        Ok(())
     }
 }

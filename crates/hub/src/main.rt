@@ -1,21 +1,21 @@
 #![tactic(auto)]
 
-use crate::answer::{answer, print_trouble};
 use crate::build::Store;
-use crate::tell::tell;
+use crate::desk::Desk;
+use crate::tell::{is_told, tell};
+use crate::trouble::Trouble;
 use document::document::Document;
+use reader::reader::Reader;
 use std::alloc::Global;
 use std::io;
-use store::records::View;
 
-mod answer;
-mod ask;
 mod build;
-mod marks;
+mod desk;
 mod parse;
-mod story;
+mod shown;
 mod tables;
 mod tell;
+mod trouble;
 
 // The lines of standard input.
 fn read_lines(rt: &(impl Input + AllocGlobal)) -> io::Result<Vec<String>> {
@@ -26,46 +26,53 @@ fn read_lines(rt: &(impl Input + AllocGlobal)) -> io::Result<Vec<String>> {
     Ok(lines)
 }
 
-// Fills tables with what the lines tell of the document; each bad line is named, and then false is the
-// answer.
-fn told(rt: &impl Print, store: &mut Store, lines: &[String]) -> io::Result<bool> {
+// The tables that the lines tell of; each bad line is named, and then there are none.
+fn told(rt: &impl Print, heap: Global, lines: &[String]) -> io::Result<Option<Store>> {
+    let mut store = Store::new(heap);
     let mut good = true;
-    let mut number = 0usize;
-    for line in lines {
-        number = number.saturating_add(1);
-        if let Err(trouble) = tell(store, line.as_str().trim()) {
-            print_trouble(rt, number, trouble)?;
+    for (number, line) in (1u64..).zip(lines) {
+        if let Err(trouble) = tell(&mut store, line.as_str().trim()) {
+            println!(rt; "line {number}: {trouble}")?;
             good = false;
         }
     }
-    Ok(good)
+    Ok(good.then_some(store))
 }
 
-// Examines the tables, and answers the questions or names the fault.
-fn examined(rt: &impl Print, heap: Global, store: &Store, lines: &[String]) -> io::Result<()> {
-    let view = View {
-        runs: store.runs.as_slice(),
-        lists: store.lists.as_slice(),
-        clients: store.clients.as_slice(),
-        entries: store.entries.as_slice(),
-        bytes: store.bytes.as_slice(),
-    };
-    let lists = match u32::try_from(store.lists.len()) {
-        Ok(n) => n,
-        Err(_) => 0,
-    };
-    match Document::examine(&view) {
-        Err(fault) => println!(rt; "the store is damaged: {fault}"),
-        Ok(document) => answer(rt, heap, &document, lists, lines),
+// Answers the questions among the lines, one after the other.
+fn answer<R: Reader>(
+    rt: &impl Print,
+    heap: Global,
+    document: &R,
+    lists: u32,
+    lines: &[String],
+) -> io::Result<()> {
+    let mut desk = Desk::new(rt, heap, document, lists);
+    for (number, line) in (1u64..).zip(lines) {
+        let text = line.as_str().trim();
+        if text.is_empty() || text.starts_with('#') || is_told(text) {
+            continue;
+        }
+        println!(rt; "> {text}")?;
+        match desk.ask(text) {
+            Ok(()) => {}
+            Err(Trouble::Output(error)) => return Err(error),
+            Err(trouble) => println!(rt; "line {number}: {trouble}")?,
+        }
     }
+    Ok(())
 }
 
 fn main(rt: HostRuntime) -> io::Result<()> {
     let heap = rt.alloc();
     let lines = read_lines(&rt)?;
-    let mut store = Store::new(heap);
-    if told(&rt, &mut store, lines.as_slice())? {
-        examined(&rt, heap, &store, lines.as_slice())?;
+    let Some(store) = told(&rt, heap, lines.as_slice())? else {
+        return Ok(());
+    };
+    let view = store.view();
+    let lists = u32::try_from(view.lists.len()).unwrap_or(0);
+    match Document::examine(&view) {
+        Err(fault) => println!(rt; "the store is damaged: {fault}"),
+        Ok(document) => answer(&rt, heap, &document, lists, lines.as_slice()),
     }
-    Ok(())
 }

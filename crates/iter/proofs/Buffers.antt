@@ -1,12 +1,12 @@
 -- Slices written into a buffer, one after another.
-use Rattle.std.proofs.Common.{◌≡◌, ℕ, ◌+◌, ◌<◌, List, [], ◌∷◌, ◌++◌, map, length, take, drop, set, Some, None, Ok, Err, Option, sym, refl, ap, ◌∙◌, subst, append_assoc, append-nil, arith, length-append, drop-drop, drop-set-lt}
+use Rattle.std.proofs.Common.{◌≡◌, ℕ, ◌+◌, ◌<◌, List, [], ◌∷◌, ◌++◌, map, length, take, drop, set, Some, None, Ok, Option, sym, refl, ap, ◌∙◌, append_assoc, arith, length-append, drop-drop, drop-set-lt}
 use mathlib.Core.List.{map-append}
 use Rattle.std.proofs.lemmas.List.{take_more_set}
-use Rattle.block.specs.declared.fault.Fault.{Fault}
+use Rattle.std.specs.Option.{option_map}
 use Rattle.iter.specs.declared.slice.ItemSlice.{ItemSlice}
 use Rattle.iter.specs.Ranges.{Course, Piece, piece_of, over}
 use Rattle.iter.specs.Steps.{Told}
-use Rattle.iter.specs.Collects.{Holds, piece_in}
+use Rattle.iter.specs.Collects.{Holds}
 
 module _ {I P : Type 0} (coming : I → Course P → Type 0) where
   pub holds_none : (c : Course P) (out : List (Option (ItemSlice P))) (i : I) → coming i c → Holds coming c out out 0 i
@@ -21,7 +21,7 @@ module _ {I P : Type 0} (coming : I → Course P → Type 0) where
           came = came ++ (piece_of s ∷ []);
           later = step.later;
           comes = step.comes;
-          held = ap (map piece_in) (take_more_set out n (Some s) room) ∙ map-append piece_in (take n out) (Some s ∷ []) ∙ ap (λ (xs : List (Option (Piece P))). xs ++ (Some (piece_of s) ∷ [])) h.held ∙ sym (map-append Some came (piece_of s ∷ []));
+          held = ap (map (option_map piece_of)) (take_more_set out n (Some s) room) ∙ map-append (option_map piece_of) (take n out) (Some s ∷ []) ∙ ap (λ (xs : List (Option (Piece P))). xs ++ (Some (piece_of s) ∷ [])) h.held ∙ sym (map-append Some came (piece_of s ∷ []));
           rest = drop-set-lt (n + 1) out n (Some s) (omega arith) ∙ sym (drop-drop 1 n out) ∙ ap (drop 1) h.rest ∙ drop-drop 1 n before;
           many = length-append came (piece_of s ∷ []) ∙ ap (λ (k : ℕ). k + 1) h.many;
           slices = h.slices ∙ ap (λ (x : Course P). came ++ x.slices) is ∙ sym (append_assoc came (piece_of s ∷ []) step.later.slices);
@@ -44,10 +44,3 @@ module _ {I P : Type 0} (coming : I → Course P → Type 0) where
           },
           step.ends refl,
         )
-
-    pub holds_refused : (f : Fault) → ((d : Course P) → coming i d → Told coming d (Err f) t) → (map piece_in (take n out) ≡ map Some c.slices) × (drop n out ≡ drop n before) × (c.fault ≡ Some f) × coming t over
-    holds_refused f told =
-        let step = told h.later h.comes in
-        let (broke, end) = step.answer in
-        let all : c.slices ≡ h.came = h.slices ∙ ap (λ (x : Course P). h.came ++ x.slices) broke ∙ append-nil h.came in
-        (h.held ∙ ap (map Some) (sym all), h.rest, h.fault ∙ ap (λ (x : Course P). x.fault) broke, subst (coming t) end step.comes)

@@ -1,12 +1,12 @@
 -- A client's runs by their clocks.
-use Rattle.std.proofs.Common.{◌≡◌, ℕ, ◌+◌, ◌-◌, ◌<◌, List, [], ◌∷◌, Some, None, Option, sym, refl, ap, ◌∙◌, subst, arith}
+use Rattle.std.proofs.Common.{◌≡◌, ℕ, ◌+◌, ◌-◌, ◌<◌, List, [], ◌∷◌, Some, None, Option, sym, ap, ◌∙◌, subst, arith}
 use Rattle.block.specs.declared.ids.Id.{Id}
 use Rattle.block.specs.Units.{Meaning, Lawful, Stretch, RunOf, unit_at}
 use Rattle.reader.specs.declared.reader.Description.{Description}
-use Rattle.reader.specs.Answers.{Nearest, Later, Described, described}
+use Rattle.reader.specs.Answers.{Nearest, Later, Described}
 use Rattle.iter.specs.declared.run.Run.{Run}
 use Rattle.iter.specs.Runs.{Apart, ByClock, Taken}
-use Rattle.iter.proofs.Chains.{described_some, same_run, run_known}
+use Rattle.iter.proofs.Chains.{described_some, same_run}
 
 pub same_id : (a b : Id) → a.client ≡ b.client → a.clock ≡ b.clock → a ≡ b
 same_id a b p q = ap (λ (x : ℕ). record { client = x; clock = a.clock }) p ∙ ap (λ (x : ℕ). record { client = b.client; clock = x }) q
@@ -46,27 +46,11 @@ module _ {P : Type 0} (m : Meaning) (st : P → Option Stretch) (lawful : Lawful
       apart p q t u (t.from + offset t) e f both.0 (omega arith) (omega (arith, here.inside)) (omega (arith, at)) (omega (arith, at, there.inside))
 
   -- the nearest run is the first of the client's runs from the clock on
-  pub first_by_clock : (p : P) (d : Description) → Nearest m st client clock (Some p) → Described m (st p) (Some d) → {S : Type 0} (ahead : S → List (Run P) → Type 0) (s s' : S) → Apart st → ((vs : List (Run P)) → ByClock m st client (d.id.clock + d.len) vs → ahead s' vs) → (ws : List (Run P)) → ByClock m st client clock ws → Taken ahead s ws (Some (record { place = p; about = d })) s'
-  first_by_clock p d near desc ahead s s' apart next [] r = absurd (none_nearest p near r)
-  first_by_clock p d near desc ahead s s' apart next (w ∷ ws) (nearest, about, rest) =
-      let same : w.place ≡ p = one_nearest apart w.place p nearest near in
-      let (t, e, q) = described_some m (st p) d desc in
+  pub first_by_clock : (v : Run P) → Nearest m st client clock (Some v.place) → Described m (st v.place) (Some v.about) → {S : Type 0} (ahead : S → List (Run P) → Type 0) (s s' : S) → Apart st → ((vs : List (Run P)) → ByClock m st client (v.about.id.clock + v.about.len) vs → ahead s' vs) → (ws : List (Run P)) → ByClock m st client clock ws → Taken ahead s ws (Some v) s'
+  first_by_clock v near desc ahead s s' apart next [] r = absurd (none_nearest v.place near r)
+  first_by_clock v near desc ahead s s' apart next (w ∷ ws) (nearest, about, rest) =
+      let same : w.place ≡ v.place = one_nearest apart w.place v.place nearest near in
+      let (t, e, q) = described_some m (st v.place) v.about desc in
       let (u, f, r) = described_some m (st w.place) w.about about in
-      let whole : w.about ≡ d = cc in
-      (ap Some (same_run p d w same whole), next ws (subst (λ (x : Description). ByClock m st client (x.id.clock + x.len) ws) whole rest))
-
-  pub ends_by_clock : Nearest m st client clock None → {S : Type 0} (ahead : S → List (Run P) → Type 0) (s : S) → (ws : List (Run P)) → ByClock m st client clock ws → Taken ahead s ws None s
-  ends_by_clock none ahead s [] r = (refl, refl)
-  ends_by_clock none ahead s (w ∷ ws) r = absurd (none_nearest w.place r.0 none)
-
-  pub clock_rises : (p : P) (d : Description) → Nearest m st client clock (Some p) → Described m (st p) (Some d) → m.known client - (d.id.clock + d.len) < m.known client - clock
-  clock_rises p d (t, e, c, below, first) desc =
-      let (some, known) = run_known m st settled lawful p d desc in
-      let (u, f, q) = described_some m (st p) d desc in
-      let stretch : u ≡ t = cc in
-      let is : d ≡ described m t = cc in
-      let client-is : d.id.client ≡ client = ap (λ (x : Description). x.id.client) is ∙ c in
-      let known_is : m.known d.id.client ≡ m.known client = ap m.known client-is in
-      let clock_is : d.id.clock ≡ (unit_at m t.list t.from).id.clock = ap (λ (x : Description). x.id.clock) is in
-      let len_is : d.len ≡ t.count = ap (λ (x : Description). x.len) is in
-      omega arith
+      let whole : w.about ≡ v.about = cc in
+      (ap Some (same_run v w (sym same) (sym whole)), next ws (subst (λ (x : Description). ByClock m st client (x.id.clock + x.len) ws) whole rest))

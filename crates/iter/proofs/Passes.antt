@@ -39,28 +39,25 @@ module _ {S P : Type 0} (ahead : S → List (Run P) → Type 0) where
         let (b, none) = none_left t us a (took us a) in
         record { later = c; comes = (us, b, e); answer = refl; ends = λ x. e ∙ ap (λ (ws : List (Run P)). gives s ws) none ∙ nothing_comes s.state s.start s.end }
 
-  -- a range that began at `from` and is s now, whose source gives w and is t then, and which answers r to w and is in another state then
-  module _ (from s : RangeIter S P) (t : S) (w : Run P) (state : RangeIterState) (r : Result (Option (ItemSlice P)) Fault) (inv : (c : Course P) → Coming ahead from c → Coming ahead s c) (took : (ws : List (Run P)) → ahead s.iter ws → Taken ahead s.iter ws (Some w) t) (met : (ws : List (Run P)) → Answers (course s.state s.start s.end (w ∷ ws)) r (course state s.start s.end ws)) where
-    abbrev after : RangeIter S P
-    after = record { iter = t; start = s.start; end = s.end; state = state }
-
-    run_met : (q : Result (Option (ItemSlice P)) Fault) → r ≡ q → (c : Course P) → Coming ahead from c → (vs : List (Run P)) × ahead t vs × Answers c q (gives after vs)
+  -- a range that began at `from` and is s now, whose source gives w and is t then, and which answers r to w and is u then
+  module _ (from s u : RangeIter S P) (t : S) (w : Run P) (r : Result (Option (ItemSlice P)) Fault) (inv : (c : Course P) → Coming ahead from c → Coming ahead s c) (took : (ws : List (Run P)) → ahead s.iter ws → Taken ahead s.iter ws (Some w) t) (kept : u.iter ≡ t) (met : (ws : List (Run P)) → Answers (gives s (w ∷ ws)) r (gives u ws)) where
+    run_met : (q : Result (Option (ItemSlice P)) Fault) → r ≡ q → (c : Course P) → Coming ahead from c → (vs : List (Run P)) × ahead u.iter vs × Answers c q (gives u vs)
     run_met q is c h =
         let (us, a, e) = inv c h in
         let (vs, b, f) = taken_rest s.iter t w us (took us a) in
-        let answers : Answers c r (gives after vs) = subst (λ (x : Course P). Answers x r (gives after vs)) (ap (λ (xs : List (Run P)). gives s xs) (sym f) ∙ sym e) (met vs) in
-        (vs, b, subst (λ (x : Result (Option (ItemSlice P)) Fault). Answers c x (gives after vs)) is answers)
+        let answers : Answers c r (gives u vs) = subst (λ (x : Course P). Answers x r (gives u vs)) (ap (λ (xs : List (Run P)). gives s xs) (sym f) ∙ sym e) (met vs) in
+        (vs, subst (λ (x : S). ahead x vs) (sym kept) b, subst (λ (x : Result (Option (ItemSlice P)) Fault). Answers c x (gives u vs)) is answers)
 
-    pub passed : r ≡ Ok None → (c : Course P) → Coming ahead from c → Coming ahead after c
+    pub passed : r ≡ Ok None → (c : Course P) → Coming ahead from c → Coming ahead u c
     passed is c h = run_met (Ok None) is c h
 
-    told : (q : Result (Option (ItemSlice P)) Fault) → r ≡ q → (q ≡ Ok None → ⊥) → (c : Course P) → Coming ahead from c → Told (Coming ahead) c q after
+    pub told : (q : Result (Option (ItemSlice P)) Fault) → r ≡ q → (q ≡ Ok None → ⊥) → (c : Course P) → Coming ahead from c → Told (Coming ahead) c q u
     told q is some c h =
         let (vs, b, answers) = run_met q is c h in
-        record { later = gives after vs; comes = (vs, b, refl); answer = answers; ends = λ e. absurd (some e) }
+        record { later = gives u vs; comes = (vs, b, refl); answer = answers; ends = λ e. absurd (some e) }
 
-    pub told_some : (p : ItemSlice P) → r ≡ Ok (Some p) → (c : Course P) → Coming ahead from c → Told (Coming ahead) c (Ok (Some p)) after
+    pub told_some : (p : ItemSlice P) → r ≡ Ok (Some p) → (c : Course P) → Coming ahead from c → Told (Coming ahead) c (Ok (Some p)) u
     told_some p is = told (Ok (Some p)) is (λ e. let z : ◌≡◌ {A = ℕ} 0 1 = cc in omega arith)
 
-    pub told_err : (f : Fault) → r ≡ Err f → (c : Course P) → Coming ahead from c → Told (Coming ahead) c (Err f) after
+    pub told_err : (f : Fault) → r ≡ Err f → (c : Course P) → Coming ahead from c → Told (Coming ahead) c (Err f) u
     told_err f is = told (Err f) is (λ e. let z : ◌≡◌ {A = ℕ} 0 1 = cc in omega arith)

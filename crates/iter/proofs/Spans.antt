@@ -1,6 +1,7 @@
 -- A range has the units between its marks.
 use Rattle.std.proofs.Common.{◌≡◌, ℕ, zero, suc, ◌+◌, ◌-◌, ◌<◌, ◌≤◌, Bool, true, false, ◌&&◌, eqb, ltb, leb, List, [], ◌∷◌, ◌++◌, Some, None, sym, refl, ap, ◌∙◌, subst, inl, inr, append-nil, arith}
 use Rattle.std.proofs.lemmas.Bool.{cases_Bool, cases_lt, cond-true, cond-false, cond_both, and_parts, and_from, eqb-true, leb-true, ltb-true, ltb-false, eq-eqb, le-leb, lt-ltb, both_ways}
+use Rattle.std.specs.Option.{option_map}
 use Rattle.block.specs.declared.ids.Id.{Id}
 use Rattle.block.specs.Lookup.{same_id}
 use Rattle.reader.specs.declared.reader.Description.{Description}
@@ -12,37 +13,46 @@ use Rattle.sticky_index.specs.declared.index.StickyIndex.{StickyIndex}
 use Rattle.iter.specs.declared.run.Run.{Run}
 use Rattle.iter.specs.declared.state.RangeIterState.TheVariants.{Opened, InRange}
 use Rattle.iter.specs.Cuts.{id_in}
-use Rattle.iter.specs.Ranges.{Course, edge, has_unit, offset_in, met, first_in, put, part, over, broken, backwards, cut_at, cut, enter, course}
+use Rattle.iter.specs.Ranges.{Course, edge, met, first_in, put, part, over, broken, backwards, cut_at, cut, enter, course}
 use Rattle.iter.specs.Between.{ids_from, run_ids, slice_ids, from_unit, up_to_unit, from_mark, up_to_mark, with_first, with_last, Between}
+
+-- how far the unit with an id stands in a run, and whether it stands there
+abbrev offset : Description → Id → ℕ
+offset run id = id.clock - run.id.clock
+
+abbrev has_unit : Description → Id → Bool
+has_unit run id = eqb run.id.client id.client && (leb run.id.clock id.clock && ltb id.clock (run.id.clock + run.len))
 
 module _ (run : Description) (id : Id) where
   abbrev here : ℕ → Bool
   here j = same_id (id_in run j) id
 
   -- what the tests say
-  parts : has_unit run id ≡ true → (eqb run.id.client id.client ≡ true) × (run.id.clock ≤ id.clock) × (offset_in run id < run.len)
+  parts : has_unit run id ≡ true → (eqb run.id.client id.client ≡ true) × (run.id.clock ≤ id.clock) × (offset run id < run.len)
   parts h =
-      let (a, b) = and_parts (eqb run.id.client id.client) (leb run.id.clock id.clock && ltb (offset_in run id) run.len) h in
-      let (c, d) = and_parts (leb run.id.clock id.clock) (ltb (offset_in run id) run.len) b in
-      (a, leb-true run.id.clock id.clock c, ltb-true (offset_in run id) run.len d)
+      let (a, b) = and_parts (eqb run.id.client id.client) (leb run.id.clock id.clock && ltb id.clock (run.id.clock + run.len)) h in
+      let (c, d) = and_parts (leb run.id.clock id.clock) (ltb id.clock (run.id.clock + run.len)) b in
+      let le = leb-true run.id.clock id.clock c in
+      let lt = ltb-true id.clock (run.id.clock + run.len) d in
+      (a, le, omega arith)
 
   here_parts : (j : ℕ) → here j ≡ true → (eqb run.id.client id.client ≡ true) × (run.id.clock + j ≡ id.clock)
   here_parts j h =
       let (a, b) = and_parts (eqb run.id.client id.client) (eqb (run.id.clock + j) id.clock) h in
       (a, eqb-true (run.id.clock + j) id.clock b)
 
-  hit : has_unit run id ≡ true → here (offset_in run id) ≡ true
+  hit : has_unit run id ≡ true → here (offset run id) ≡ true
   hit h =
       let (a, le, lt) = parts h in
-      and_from (eqb run.id.client id.client) (eqb (run.id.clock + offset_in run id) id.clock) a (eq-eqb (run.id.clock + offset_in run id) id.clock (omega arith))
+      and_from (eqb run.id.client id.client) (eqb (run.id.clock + offset run id) id.clock) a (eq-eqb (run.id.clock + offset run id) id.clock (omega arith))
 
   held : (j : ℕ) → j < run.len → here j ≡ true → has_unit run id ≡ true
   held j l h =
       let (a, e) = here_parts j h in
-      and_from (eqb run.id.client id.client) (leb run.id.clock id.clock && ltb (offset_in run id) run.len) a
-      (and_from (leb run.id.clock id.clock) (ltb (offset_in run id) run.len) (le-leb run.id.clock id.clock (omega arith)) (lt-ltb (offset_in run id) run.len (omega arith)))
+      and_from (eqb run.id.client id.client) (leb run.id.clock id.clock && ltb id.clock (run.id.clock + run.len)) a
+      (and_from (leb run.id.clock id.clock) (ltb id.clock (run.id.clock + run.len)) (le-leb run.id.clock id.clock (omega arith)) (lt-ltb id.clock (run.id.clock + run.len) (omega arith)))
 
-  only : (j : ℕ) → here j ≡ true → j ≡ offset_in run id
+  only : (j : ℕ) → here j ≡ true → j ≡ offset run id
   only j h = let (a, e) = here_parts j h in omega arith
 
   -- the unit at offset k is the first, or the last
@@ -78,30 +88,30 @@ module _ (run : Description) (id : Id) where
       cond-false (here k) _ _ (miss k (λ t. both_ways (has_unit run id) h (held k (omega arith) t))) ∙ ap (λ (xs : List Id). id_in run k ∷ xs) (up_to_past lean (suc k) n ys h (omega arith))
 
   -- the run has it, at or after offset k
-  pub from_there : (lean : Assoc) (k n : ℕ) (ys : List Id) → has_unit run id ≡ true → k ≤ offset_in run id → offset_in run id < k + n → from_unit lean id (ids_from run k n ++ ys) ≡ ids_from run (edge lean (offset_in run id)) ((k + n) - edge lean (offset_in run id)) ++ ys
+  pub from_there : (lean : Assoc) (k n : ℕ) (ys : List Id) → has_unit run id ≡ true → k ≤ offset run id → offset run id < k + n → from_unit lean id (ids_from run k n ++ ys) ≡ ids_from run (edge lean (offset run id)) ((k + n) - edge lean (offset run id)) ++ ys
   from_there lean k zero ys h le lt = absurd (omega arith)
   from_there lean k (suc n) ys h le lt =
-      elim (cases_lt k (offset_in run id)) [
+      elim (cases_lt k (offset run id)) [
         | inl before ↦
             (cond-false (here k) _ _ (miss k (λ t. let e = only k t in omega arith))
             ∙ from_there lean (suc k) n ys h (omega arith) (omega arith)
-            ∙ ap (λ (j : ℕ). ids_from run (edge lean (offset_in run id)) (j - edge lean (offset_in run id)) ++ ys) (let e : suc k + n ≡ k + suc n = omega arith in e))
+            ∙ ap (λ (j : ℕ). ids_from run (edge lean (offset run id)) (j - edge lean (offset run id)) ++ ys) (let e : suc k + n ≡ k + suc n = omega arith in e))
         | inr at ↦
-            (let same : offset_in run id ≡ k = omega arith in
-            cond-true (here k) _ _ (subst (λ (j : ℕ). here j ≡ true) same (hit h)) ∙ first_is lean k n ys (offset_in run id) same)
+            (let same : offset run id ≡ k = omega arith in
+            cond-true (here k) _ _ (subst (λ (j : ℕ). here j ≡ true) same (hit h)) ∙ first_is lean k n ys (offset run id) same)
       ]
 
-  pub up_to_there : (lean : Assoc) (k n : ℕ) (ys : List Id) → has_unit run id ≡ true → k ≤ offset_in run id → offset_in run id < k + n → up_to_unit lean id (ids_from run k n ++ ys) ≡ ids_from run k (edge lean (offset_in run id) - k)
+  pub up_to_there : (lean : Assoc) (k n : ℕ) (ys : List Id) → has_unit run id ≡ true → k ≤ offset run id → offset run id < k + n → up_to_unit lean id (ids_from run k n ++ ys) ≡ ids_from run k (edge lean (offset run id) - k)
   up_to_there lean k zero ys h le lt = absurd (omega arith)
   up_to_there lean k (suc n) ys h le lt =
-      elim (cases_lt k (offset_in run id)) [
+      elim (cases_lt k (offset run id)) [
         | inl before ↦
             (cond-false (here k) _ _ (miss k (λ t. let e = only k t in omega arith))
             ∙ ap (λ (xs : List Id). id_in run k ∷ xs) (up_to_there lean (suc k) n ys h (omega arith) (omega arith))
-            ∙ ap (ids_from run k) (edge_more lean k (offset_in run id) before))
+            ∙ ap (ids_from run k) (edge_more lean k (offset run id) before))
         | inr at ↦
-            (let same : offset_in run id ≡ k = omega arith in
-            cond-true (here k) _ _ (subst (λ (j : ℕ). here j ≡ true) same (hit h)) ∙ last_is lean k (offset_in run id) same)
+            (let same : offset run id ≡ k = omega arith in
+            cond-true (here k) _ _ (subst (λ (j : ℕ). here j ≡ true) same (hit h)) ∙ last_is lean k (offset run id) same)
       ]
 
 none_up_to : (lean : Assoc) (scope : IndexScope) → [] ≡ up_to_mark lean scope []
@@ -139,14 +149,14 @@ module _ {P : Type 0} where
     abbrev EndsAt : Assoc → IndexScope → Course P → Type 0
     EndsAt lean scope c = c.fault ≡ None → slice_ids c.slices ≡ up_to_mark lean scope (ids_from w.about k (w.about.len - k) ++ rest)
 
-    cut_met : (lean : Assoc) (id : Id) → has_unit w.about id ≡ true → EndsAt lean (Relative id) (cut_at w k lean (Some id) later)
+    cut_met : (lean : Assoc) (id : Id) → has_unit w.about id ≡ true → EndsAt lean (Relative id) (cut_at w k lean (Some (id, offset w.about id)) later)
     cut_met lean id h =
-        cond_both (ltb (offset_in w.about id) k) (broken (backwards id)) (part w k (edge lean (offset_in w.about id)) over) (λ c. EndsAt lean (Relative id) c)
+        cond_both (ltb (offset w.about id) k) (broken (backwards id)) (part w k (edge lean (offset w.about id)) over) (λ c. EndsAt lean (Relative id) c)
         (λ e f. let z : ◌≡◌ {A = ℕ} 0 1 = cc in absurd (omega arith))
         (λ e f.
-        let le = ltb-false (offset_in w.about id) k e in
+        let le = ltb-false (offset w.about id) k e in
         let (a, b, lt) = parts w.about id h in
-        (part_ids w k (edge lean (offset_in w.about id)) over).1 ∙ append-nil (ids_from w.about k (edge lean (offset_in w.about id) - k))
+        (part_ids w k (edge lean (offset w.about id)) over).1 ∙ append-nil (ids_from w.about k (edge lean (offset w.about id) - k))
         ∙ sym (up_to_there w.about id lean k (w.about.len - k) rest h le (omega arith)))
 
     cut_past : (lean : Assoc) (scope : IndexScope) → (later.fault ≡ None → slice_ids later.slices ≡ up_to_mark lean scope rest) → up_to_mark lean scope (ids_from w.about k (w.about.len - k) ++ rest) ≡ ids_from w.about k (w.about.len - k) ++ up_to_mark lean scope rest → EndsAt lean scope (cut_at w k lean None later)
@@ -156,7 +166,7 @@ module _ {P : Type 0} where
 
     pub cut_ids : (lean : Assoc) (scope : IndexScope) → (later.fault ≡ None → slice_ids later.slices ≡ up_to_mark lean scope rest) → EndsAt lean scope (cut_at w k lean (met w.about scope) later)
     cut_ids lean (Relative id) ih =
-        cond_both (has_unit w.about id) (Some id) None (λ o. EndsAt lean (Relative id) (cut_at w k lean o later)) (λ h. cut_met lean id h) (λ h. cut_past lean (Relative id) ih (up_to_past w.about id lean k (w.about.len - k) rest h (omega arith)))
+        cond_both (has_unit w.about id) (Some (offset w.about id)) None (λ o. EndsAt lean (Relative id) (cut_at w k lean (option_map (λ at. (id, at)) o) later)) (λ h. cut_met lean id h) (λ h. cut_past lean (Relative id) ih (up_to_past w.about id lean k (w.about.len - k) rest h (omega arith)))
     cut_ids lean (Nested id) ih = cut_past lean (Nested id) ih refl
     cut_ids lean (Root l) ih = cut_past lean (Root l) ih refl
 
@@ -177,12 +187,12 @@ module _ {P : Type 0} where
     -- what comes of a run before the range has started, where `passed` comes of the runs after it
     enter_ids : (w : Run P) (ws : List (Run P)) (passed : Course P) (lean : Assoc) (scope : IndexScope) → (passed.fault ≡ None → slice_ids passed.slices ≡ up_to end (from_mark lean scope (run_ids ws))) → (enter (first_in w.about lean scope) w end passed (course InRange start end ws)).fault ≡ None → slice_ids (enter (first_in w.about lean scope) w end passed (course InRange start end ws)).slices ≡ up_to end (from_mark lean scope (run_ids (w ∷ ws)))
     enter_ids w ws passed lean (Relative id) ih =
-        cond_both (has_unit w.about id) (Some (edge lean (offset_in w.about id))) None (λ o. (enter o w end passed (course InRange start end ws)).fault ≡ None → slice_ids (enter o w end passed (course InRange start end ws)).slices ≡ up_to end (from_unit lean id (run_ids (w ∷ ws))))
+        cond_both (has_unit w.about id) (Some (offset w.about id)) None (λ o. (enter (option_map (edge lean) o) w end passed (course InRange start end ws)).fault ≡ None → slice_ids (enter (option_map (edge lean) o) w end passed (course InRange start end ws)).slices ≡ up_to end (from_unit lean id (run_ids (w ∷ ws))))
         (λ h.
         let (a, b, lt) = parts w.about id h in
         let none : 0 + w.about.len ≡ w.about.len = omega arith in
-        entered w ws (edge lean (offset_in w.about id)) (from_unit lean id (run_ids (w ∷ ws))) (edge_fits lean (offset_in w.about id) w.about.len lt)
-        (from_there w.about id lean 0 w.about.len (run_ids ws) h (omega arith) (omega arith) ∙ ap (λ (n : ℕ). ids_from w.about (edge lean (offset_in w.about id)) (n - edge lean (offset_in w.about id)) ++ run_ids ws) none))
+        entered w ws (edge lean (offset w.about id)) (from_unit lean id (run_ids (w ∷ ws))) (edge_fits lean (offset w.about id) w.about.len lt)
+        (from_there w.about id lean 0 w.about.len (run_ids ws) h (omega arith) (omega arith) ∙ ap (λ (n : ℕ). ids_from w.about (edge lean (offset w.about id)) (n - edge lean (offset w.about id)) ++ run_ids ws) none))
         (λ h f. ih f ∙ ap (up_to end) (sym (from_past w.about id lean 0 w.about.len (run_ids ws) h (omega arith))))
     enter_ids w ws passed lean (Nested id) ih = entered w ws 0 (run_ids (w ∷ ws)) (omega arith) (whole w ws)
     enter_ids w ws passed lean (Root l) ih = entered w ws 0 (run_ids (w ∷ ws)) (omega arith) (whole w ws)

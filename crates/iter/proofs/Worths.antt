@@ -1,6 +1,6 @@
 -- The visible units of a part of a run.
-use Rattle.std.proofs.Common.{◌≡◌, ℕ, zero, suc, ◌+◌, ◌-◌, ◌<◌, ◌≤◌, min, Bool, true, false, cond, List, [], ◌∷◌, length, get_or, take, drop, Some, None, Option, sym, refl, ap, ◌∙◌, subst, inl, inr, add-zero, add_assoc, arith, get_or-drop, drop-cons}
-use Rattle.std.proofs.lemmas.Bool.{cases_Bool, cases_lt}
+use Rattle.std.proofs.Common.{◌≡◌, ℕ, zero, suc, ◌+◌, ◌-◌, ◌<◌, ◌≤◌, min, Bool, true, false, ◌&&◌, cond, List, [], ◌∷◌, length, get_or, take, drop, Some, None, Option, sym, refl, ap, ◌∙◌, subst, inl, inr, add-zero, add_assoc, arith, get_or-drop, drop-cons}
+use Rattle.std.proofs.lemmas.Bool.{cases_lt, and_parts}
 use Rattle.block.specs.declared.kind.Kind.{Kind}
 use Rattle.block.specs.declared.slot.Slot.{Slot}
 use Rattle.block.specs.Kinds.{is_counted}
@@ -46,50 +46,44 @@ module _ (m : Meaning) (t : Stretch) (run : RunOf m t) (start end : ℕ) where
       ∙ visible_front us (t.from + start) (min (end + 1) t.count - (start + 1)) (omega (arith, run.within)) (run_visible m t run start h ∙ v)
       ∙ ap (λ (k : ℕ). unit_at m t.list (t.from + start) ∷ seen (take (min (end + 1) t.count - (start + 1)) (drop k us))) i
 
-  -- what the reader answers at the part's start
-  module _ (shown : Slot → Option (Kind × Worth)) (live : (unit_at m t.list t.from).live ≡ true) where
-    visible_is : (b : Bool) → is_counted (unit_at m t.list t.from).kind ≡ b → visible (unit_at m t.list t.from) ≡ b
-    visible_is b e = rw (live, e) refl
+  -- what the reader answers at the start of a visible part
+  module _ (shown : Slot → Option (Kind × Worth)) (shows : visible (unit_at m t.list t.from) ≡ true) where
+    counted : is_counted (unit_at m t.list t.from).kind ≡ true
+    counted = (and_parts (unit_at m t.list t.from).live (is_counted (unit_at m t.list t.from).kind) shows).1
 
     pub none_valued : Valued m shown (Some t) start None → seen_in m (Some t) start end ≡ []
     none_valued h =
-        elim (cases_Bool (is_counted (unit_at m t.list t.from).kind)) [
-          | inr e ↦ hidden_part (visible_is false e)
-          | inl e ↦ elim (cases_lt start t.count) [
-            | inr far ↦ past_part far
-            | inl near ↦ (let (s, is, value) = h.some (rw e (omega arith)) in let z : ◌≡◌ {A = ℕ} 0 1 = cc in absurd (omega arith))
-          ]
+        elim (cases_lt start t.count) [
+          | inr far ↦ past_part far
+          | inl near ↦ (let (s, is, value) = h.some (rw counted (omega arith)) in let z : ◌≡◌ {A = ℕ} 0 1 = cc in absurd (omega arith))
         ]
 
     pub some_valued : (x : Slot) → start ≤ end → Valued m shown (Some t) start (Some x) → (u : UnitOf) × (shown x ≡ Some (facet u)) × (seen_in m (Some t) start end ≡ u ∷ seen_in m (Some t) (start + 1) end)
     some_valued x o h =
-        elim (cases_Bool (is_counted (unit_at m t.list t.from).kind)) [
-          | inr e ↦ (let is = h.none (rw e refl) in let z : ◌≡◌ {A = ℕ} 0 1 = cc in absurd (omega arith))
-          | inl e ↦ elim (cases_lt start t.count) [
-            | inr far ↦ (let is = h.none (rw e (omega arith)) in let z : ◌≡◌ {A = ℕ} 0 1 = cc in absurd (omega arith))
-            | inl near ↦
-                (let (s, is, value) = h.some (rw e (omega arith)) in
-                let same : x ≡ s = cc in
-                let at : get_or (drop (t.from + start) (m.units t.list)) 0 no_unit ≡ unit_at m t.list (t.from + start) = get_or-drop (t.from + start) (m.units t.list) 0 no_unit ∙ ap (unit_at m t.list) (add-zero (t.from + start)) in
-                (unit_at m t.list (t.from + start), ap shown same ∙ value ∙ ap (λ (u : UnitOf). Some (facet u)) at, visible_part (visible_is true e) o near))
-          ]
+        elim (cases_lt start t.count) [
+          | inr far ↦ (let is = h.none (rw counted (omega arith)) in let z : ◌≡◌ {A = ℕ} 0 1 = cc in absurd (omega arith))
+          | inl near ↦
+              (let (s, is, value) = h.some (rw counted (omega arith)) in
+              let same : x ≡ s = cc in
+              let at : get_or (drop (t.from + start) (m.units t.list)) 0 no_unit ≡ unit_at m t.list (t.from + start) = get_or-drop (t.from + start) (m.units t.list) 0 no_unit ∙ ap (unit_at m t.list) (add-zero (t.from + start)) in
+              (unit_at m t.list (t.from + start), ap shown same ∙ value ∙ ap (λ (u : UnitOf). Some (facet u)) at, visible_part shows o near))
         ]
 
 -- the same, by what the reader says of the run
-module _ {P : Type 0} (m : Meaning) (st : P → Option Stretch) (settled : (p : P) (t : Stretch) → st p ≡ Some t → RunOf m t) (shown : Slot → Option (Kind × Worth)) (s : ItemSlice P) (d : Description) (desc : Described m (st s.place) (Some d)) where
-  pub dead_value : d.live ≡ false → FirstValue m st shown s None
-  dead_value dead =
-      let (t, e, q) = described_some m (st s.place) d desc in
-      let hidden : (unit_at m t.list t.from).live ≡ false = sym (ap (λ (x : Description). x.live) q) ∙ dead in
-      rw e (hidden_part m t (settled s.place t e) s.start s.end (rw hidden refl))
+module _ {P : Type 0} (m : Meaning) (st : P → Option Stretch) (settled : (p : P) (t : Stretch) → st p ≡ Some t → RunOf m t) (shown : Slot → Option (Kind × Worth)) (s : ItemSlice P) (d : Description) (desc : Described m (st s.run.place) (Some d)) where
+  abbrev shows : Description → Bool
+  shows x = x.live && is_counted x.kind
 
-  pub live_value : d.live ≡ true → (r : Option Slot) → Valued m shown (st s.place) s.start r → FirstValue m st shown s r
-  live_value lives None h =
-      let (t, e, q) = described_some m (st s.place) d desc in
-      let live : (unit_at m t.list t.from).live ≡ true = sym (ap (λ (x : Description). x.live) q) ∙ lives in
-      subst (λ (o : Option Stretch). seen_in m o s.start s.end ≡ []) (sym e) (none_valued m t (settled s.place t e) s.start s.end shown live (subst (λ (o : Option Stretch). Valued m shown o s.start None) e h))
-  live_value lives (Some x) h =
-      let (t, e, q) = described_some m (st s.place) d desc in
-      let live : (unit_at m t.list t.from).live ≡ true = sym (ap (λ (x : Description). x.live) q) ∙ lives in
+  pub hidden_value : shows d ≡ false → FirstValue m st shown s None
+  hidden_value hidden =
+      let (t, e, q) = described_some m (st s.run.place) d desc in
+      rw e (hidden_part m t (settled s.run.place t e) s.start s.end (sym (ap shows q) ∙ hidden))
+
+  pub shown_value : shows d ≡ true → (r : Option Slot) → Valued m shown (st s.run.place) s.start r → FirstValue m st shown s r
+  shown_value is None h =
+      let (t, e, q) = described_some m (st s.run.place) d desc in
+      subst (λ (o : Option Stretch). seen_in m o s.start s.end ≡ []) (sym e) (none_valued m t (settled s.run.place t e) s.start s.end shown (sym (ap shows q) ∙ is) (subst (λ (o : Option Stretch). Valued m shown o s.start None) e h))
+  shown_value is (Some x) h =
+      let (t, e, q) = described_some m (st s.run.place) d desc in
       subst (λ (o : Option Stretch). (u : UnitOf) × (shown x ≡ Some (facet u)) × (seen_in m o s.start s.end ≡ u ∷ seen_in m o (s.start + 1) s.end)) (sym e)
-      (some_valued m t (settled s.place t e) s.start s.end shown live x s.ordered (subst (λ (o : Option Stretch). Valued m shown o s.start (Some x)) e h))
+      (some_valued m t (settled s.run.place t e) s.start s.end shown (sym (ap shows q) ∙ is) x s.ordered (subst (λ (o : Option Stretch). Valued m shown o s.start (Some x)) e h))

@@ -1,6 +1,8 @@
 -- The slices of the runs between two marks, and how a range ends.
-use Rattle.std.specs.Prelude.{◌≡◌, ℕ, ◌+◌, ◌-◌, Bool, cond, ◌&&◌, List, [], ◌∷◌, Some, None, Ok, Err, Option, Result, ◌==◌, nat_le, nat_lt}
+use Rattle.std.specs.Prelude.{◌≡◌, ℕ, ◌+◌, ◌-◌, cond, List, [], ◌∷◌, Some, None, Ok, Err, Option, Result, nat_lt}
+use Rattle.std.specs.Option.{option_map}
 use Rattle.block.specs.declared.ids.Id.{Id}
+use Rattle.block.specs.Ids.{offset_in}
 use Rattle.block.specs.declared.fault.Fault.{Fault}
 use Rattle.block.specs.declared.fault.Code.TheVariants.{Backwards}
 use Rattle.block.specs.declared.fault.Part.TheVariants.{Range}
@@ -24,7 +26,7 @@ pub record Piece (P : Type 0) : Type 0 where
   pub end : ℕ
 
 abbrev pub piece_of : {P : Type 0} → ItemSlice P → Piece P
-piece_of s = record { place = s.place; run = s.run; start = s.start; end = s.end }
+piece_of s = record { place = s.run.place; run = s.run.about; start = s.start; end = s.end }
 
 -- what a range gives: slices, and in the end perhaps a refusal
 pub record Course (P : Type 0) : Type 0 where
@@ -44,27 +46,20 @@ put p c = record { slices = p ∷ c.slices; fault = c.fault }
 abbrev pub backwards : Id → Fault
 backwards id = record { code = Backwards; part = Range; spot = spots.Unit id; clips = 0 }
 
--- how far the unit with an id stands in a run, and whether it stands there
-abbrev pub offset_in : Description → Id → ℕ
-offset_in run id = id.clock - run.id.clock
-
-abbrev pub has_unit : Description → Id → Bool
-has_unit run id = run.id.client == id.client && (nat_le run.id.clock id.clock && nat_lt (offset_in run id) run.len)
-
 -- how many units of a run stand before an edge at the unit with this offset
 abbrev pub edge : Assoc → ℕ → ℕ
 edge Before k = k
 edge After k = k + 1
 
--- the unit of a mark, if the run has it; a mark on a list is no edge
-abbrev pub met : Description → IndexScope → Option Id
-met run (Relative id) = cond (has_unit run id) (Some id) None
+-- the unit of a mark and its offset in a run, if the run has it; a mark on a list is no edge
+abbrev pub met : Description → IndexScope → Option (Id × ℕ)
+met run (Relative id) = option_map (λ k. (id, k)) (offset_in id run.id run.len)
 met run (Nested id) = None
 met run (Root l) = None
 
 -- the offset at which a range starts, if it starts in this run; without an edge it starts in the first
 abbrev pub first_in : Description → Assoc → IndexScope → Option ℕ
-first_in run lean (Relative id) = cond (has_unit run id) (Some (edge lean (offset_in run id))) None
+first_in run lean (Relative id) = option_map (edge lean) (offset_in id run.id run.len)
 first_in run lean (Nested id) = Some 0
 first_in run lean (Root l) = Some 0
 
@@ -72,10 +67,10 @@ first_in run lean (Root l) = Some 0
 abbrev pub part : {P : Type 0} → Run P → ℕ → ℕ → Course P → Course P
 part w k z later = cond (nat_lt k z) (put (record { place = w.place; run = w.about; start = k; end = z - 1 }) later) later
 
--- what comes from offset k of a run on, where the end's unit in the run is given
-abbrev pub cut_at : {P : Type 0} → Run P → ℕ → Assoc → Option Id → Course P → Course P
+-- what comes from offset k of a run on, where the end's unit and its offset in the run are given
+abbrev pub cut_at : {P : Type 0} → Run P → ℕ → Assoc → Option (Id × ℕ) → Course P → Course P
 cut_at w k lean None later = part w k w.about.len later
-cut_at w k lean (Some id) later = cond (nat_lt (offset_in w.about id) k) (broken (backwards id)) (part w k (edge lean (offset_in w.about id)) over)
+cut_at w k lean (Some (id, at)) later = cond (nat_lt at k) (broken (backwards id)) (part w k (edge lean at) over)
 
 abbrev pub cut : {P : Type 0} → Run P → ℕ → StickyIndex → Course P → Course P
 cut w k end later = cut_at w k end.assoc (met w.about end.scope) later

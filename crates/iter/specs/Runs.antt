@@ -1,5 +1,5 @@
 -- Runs that come one after another: those of a list from left to right, and those of a client by their clocks.
-use Rattle.std.specs.Prelude.{◌≡◌, ℕ, ◌+◌, ◌-◌, ◌^◌, ◌<◌, ◌≤◌, List, [], ◌∷◌, length, Some, None, Ok, Err, Option, Result}
+use Rattle.std.specs.Prelude.{◌≡◌, ℕ, ◌+◌, ◌-◌, ◌<◌, ◌≤◌, List, [], ◌∷◌, length, Some, None, Ok, Err, Option, Result}
 use Rattle.block.specs.declared.fault.Fault.{Fault}
 use Rattle.block.specs.Units.{Meaning, Stretch}
 use Rattle.reader.specs.Answers.{Onward, Described, Nearest, no_list}
@@ -15,16 +15,6 @@ Taken ahead s (w ∷ ws) r t = (r ≡ Some w) × ahead t ws
 abbrev pub Given : {S P : Type 0} → (S → List (Run P) → Type 0) → (S → Type 0) → S → Option (Run P) → S → Type 0
 Given ahead certain s None t = certain s → ahead s []
 Given ahead certain s (Some w) t = (certain s → certain t) × ((ws : List (Run _)) → ahead t ws → ahead s (w ∷ ws))
-
--- a run has a unit, and its clocks fit 32 bits
-abbrev pub Fit : {P : Type 0} → Option (Run P) → Type 0
-Fit None = Unit {0}
-Fit (Some w) = (0 < w.about.len) × (w.about.id.clock + w.about.len ≤ 2 ^ 32)
-
--- a run that came is no longer ahead
-abbrev pub Nearer : {S P : Type 0} → (S → ℕ) → S → Option (Run P) → S → Type 0
-Nearer left s None t = Unit {0}
-Nearer left s (Some w) t = left t < left s
 
 -- ws are the runs of list l from index i on
 abbrev pub RunsFrom : {P : Type 0} → Meaning → (P → Option Stretch) → ℕ → ℕ → List (Run P) → Type 0

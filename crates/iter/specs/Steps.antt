@@ -1,5 +1,5 @@
 -- What a range still gives, and what one step of it answers.
-use Rattle.std.specs.Prelude.{◌≡◌, ℕ, ◌<◌, List, Some, None, Ok, Err, Option, Result}
+use Rattle.std.specs.Prelude.{◌≡◌, List, None, Ok, Option, Result}
 use Rattle.block.specs.declared.fault.Fault.{Fault}
 use Rattle.iter.specs.declared.run.Run.{Run}
 use Rattle.iter.specs.declared.slice.ItemSlice.{ItemSlice}
@@ -20,9 +20,3 @@ pub record Told {S P : Type 0} (coming : S → Course P → Type 0) (c : Course 
   pub comes : coming t later
   pub answer : Answers c r later
   pub ends : r ≡ Ok None → later ≡ over
-
--- a slice that came is no longer to come
-abbrev pub Fewer : {S P : Type 0} → (S → ℕ) → S → Result (Option (ItemSlice P)) Fault → S → Type 0
-Fewer left s (Ok None) t = Unit {0}
-Fewer left s (Ok (Some x)) t = left t < left s
-Fewer left s (Err f) t = Unit {0}

@@ -28,7 +28,7 @@ seen_held m st (Some s) = seen_of m st (piece_of s)
 -- the value of a slice's first visible unit, which is the slice's first; none if it has none
 abbrev pub FirstValue : {P : Type 0} → Meaning → (P → Option Stretch) → (Slot → Option (Kind × Worth)) → ItemSlice P → Option Slot → Type 0
 FirstValue m st shown s None = seen_of m st (piece_of s) ≡ []
-FirstValue m st shown s (Some x) = (u : UnitOf) × (shown x ≡ Some (facet u)) × (seen_of m st (piece_of s) ≡ u ∷ seen_in m (st s.place) (s.start + 1) s.end)
+FirstValue m st shown s (Some x) = (u : UnitOf) × (shown x ≡ Some (facet u)) × (seen_of m st (piece_of s) ≡ u ∷ seen_in m (st s.run.place) (s.start + 1) s.end)
 
 -- the value of the first of the units us, and the others
 abbrev pub FirstOf : (Slot → Option (Kind × Worth)) → List UnitOf → Option Slot → List UnitOf → Type 0

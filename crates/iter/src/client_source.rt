@@ -24,14 +24,14 @@ impl<R: Reader> ClientSource<R> {
         }
     }
 
-    // Gives the reader back.
+    // Gives the reader back. Each field is named, since a reader need not be `Drop`.
     pub fn close(self) -> R
         ensures { result ≡ self.reader }
     {
         let ClientSource {
             reader,
-            client: _client,
-            clock: _at,
+            client: _,
+            clock: _,
         } = self;
         reader
     }
@@ -47,15 +47,9 @@ impl<R: Reader> Source for ClientSource<R> {
     ghost left = { λ s. (R.Reader.meaning s.reader).known s.client - s.clock };
 
     fn next(&mut self) -> Option<Run<R::Place>> {
-        match self.reader.nearest(self.client, self.clock) {
-            None => None,
-            Some(place) => match self.reader.describe(place) {
-                None => None,
-                Some(about) => {
-                    self.clock = about.id.clock + about.len;
-                    Some(Run { place, about })
-                }
-            },
-        }
+        let place = self.reader.nearest(self.client, self.clock)?;
+        let about = self.reader.describe(place)?;
+        self.clock = about.id.clock + about.len;
+        Some(Run { place, about })
     }
 }

@@ -13,18 +13,11 @@ pub fn collect_into<I: Slices>(
 ) -> Result<usize, Fault>
     ensures { (c : Course I.Place) → I.Slices.coming iter.old c → Collected I.Slices.coming c out.old out.new result iter.new }
 {
-    let mut used = 0;
-    while used < out.len() {
-        match iter.next() {
-            Err(fault) => return Err(fault),
-            Ok(found) => match found {
-                None => return Ok(used),
-                Some(slice) => {
-                    out[used] = Some(slice);
-                    used += 1;
-                }
-            },
-        }
+    for (used, slot) in out.iter_mut().enumerate() {
+        let Some(slice) = iter.next()? else {
+            return Ok(used);
+        };
+        *slot = Some(slice);
     }
-    Ok(used)
+    Ok(out.len())
 }

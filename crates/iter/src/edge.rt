@@ -1,20 +1,13 @@
-ghost use Rattle.std.specs.Prelude.{◌≡◌, ◌<◌};
-ghost use Rattle.iter.specs.Ranges.{has_unit, edge, met, first_in};
+ghost use Rattle.std.specs.Prelude.{◌≡◌, ◌+◌, ◌^◌, ◌<◌};
+ghost use Rattle.iter.specs.Ranges.{edge, met, first_in};
 
 use block::ids::Id;
 use reader::reader::Description;
 use sticky_index::index::{Assoc, IndexScope, StickyIndex};
 
-// Whether a run has the unit with this id.
-fn contains(run: Description, id: Id) -> bool
-    ensures { result ≡ has_unit run id }
-{
-    run.id.client == id.client && run.id.clock <= id.clock && id.clock - run.id.clock < run.len
-}
-
 // How many units of a run stand before an edge at the unit with this offset.
-pub(crate) fn edge_at(assoc: Assoc, offset: u32, len: u32) -> u32
-    requires { offset < len }
+pub(crate) fn edge_at(assoc: Assoc, offset: u32) -> u32
+    requires { offset + 1 < 2 ^ 32 }
     ensures { result ≡ edge assoc offset }
 {
     match assoc {
@@ -23,14 +16,13 @@ pub(crate) fn edge_at(assoc: Assoc, offset: u32, len: u32) -> u32
     }
 }
 
-// The unit of a mark, if the run has it.
-pub(crate) fn met_in(run: Description, mark: StickyIndex) -> Option<Id>
+// The unit of a mark and its offset in a run, if the run has it.
+pub(crate) fn met_in(run: Description, mark: StickyIndex) -> Option<(Id, u32)>
     ensures { result ≡ met run mark.scope }
 {
     match mark.scope {
-        IndexScope::Relative(id) => if contains(run, id) { Some(id) } else { None },
-        IndexScope::Nested(_) => None,
-        IndexScope::Root(_) => None,
+        IndexScope::Relative(id) => Some((id, id.offset_in(run.id, run.len)?)),
+        IndexScope::Nested(_) | IndexScope::Root(_) => None,
     }
 }
 
@@ -39,12 +31,10 @@ pub(crate) fn first_offset(run: Description, mark: StickyIndex) -> Option<u32>
     ensures { result ≡ first_in run mark.assoc mark.scope }
 {
     match mark.scope {
-        IndexScope::Relative(id) => if contains(run, id) {
-            Some(edge_at(mark.assoc, id.clock - run.id.clock, run.len))
-        } else {
-            None
-        },
-        IndexScope::Nested(_) => Some(0),
-        IndexScope::Root(_) => Some(0),
+        IndexScope::Relative(id) => {
+            let offset = id.offset_in(run.id, run.len)?;
+            Some(edge_at(mark.assoc, offset))
+        }
+        IndexScope::Nested(_) | IndexScope::Root(_) => Some(0),
     }
 }

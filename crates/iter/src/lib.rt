@@ -2,7 +2,6 @@
 
 pub mod client_source;
 pub mod collect;
-mod cut;
 mod edge;
 pub mod list_source;
 pub mod range;

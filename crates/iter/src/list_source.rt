@@ -20,17 +20,18 @@ impl<R: Reader> ListSource<R> {
         ensures opens { Opens R.Reader.meaning R.Reader.stretch R.Reader.layers reader list result }
         ensures units { (ws : List (Run R.Place)) → RunsFrom (R.Reader.meaning reader) (R.Reader.stretch reader) list 0 ws → run_ids ws ≡ unit_ids ((R.Reader.meaning reader).units list) }
     {
+        // Both arms take the reader, so no `map` and `map_err` can stand here.
         match reader.first(list) {
             Err(e) => Err((reader, e)),
             Ok(at) => Ok(ListSource { reader, at }),
         }
     }
 
-    // Gives the reader back.
+    // Gives the reader back. Each field is named, since a reader need not be `Drop`.
     pub fn close(self) -> R
         ensures { result ≡ self.reader }
     {
-        let ListSource { reader, at: _at } = self;
+        let ListSource { reader, at: _ } = self;
         reader
     }
 }
@@ -45,15 +46,9 @@ impl<R: Reader> Source for ListSource<R> {
     ghost left = { λ s. span_left (R.Reader.meaning s.reader) (R.Reader.stretch s.reader) s.at };
 
     fn next(&mut self) -> Option<Run<R::Place>> {
-        match self.at {
-            None => None,
-            Some(place) => match self.reader.describe(place) {
-                None => None,
-                Some(about) => {
-                    self.at = self.reader.right(place);
-                    Some(Run { place, about })
-                }
-            },
-        }
+        let place = self.at?;
+        let about = self.reader.describe(place)?;
+        self.at = self.reader.right(place);
+        Some(Run { place, about })
     }
 }

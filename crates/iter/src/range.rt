@@ -1,15 +1,17 @@
-ghost use Rattle.std.specs.Prelude.{◌≡◌, List};
+ghost use Rattle.std.specs.Prelude.{◌≡◌, List, ◌∷◌};
 ghost use Rattle.iter.specs.Between.{Between};
+ghost use Rattle.iter.specs.Ranges.{Answers, course, cut};
 ghost use Rattle.iter.specs.Steps.{Coming, gives};
 ghost use Rattle.iter.specs.declared.run.Run.{Run};
-ghost use Rattle.iter.specs.declared.state.RangeIterState.TheVariants.{Opened};
+ghost use Rattle.iter.specs.declared.state.RangeIterState.TheVariants.{Opened, InRange};
 
-use crate::cut::meet;
+use crate::edge::{edge_at, first_offset, met_in};
+use crate::run::Run;
 use crate::slice::ItemSlice;
 use crate::slices::Slices;
 use crate::source::Source;
 use crate::state::RangeIterState;
-use block::fault::Fault;
+use block::fault::{Code, Fault, Part, Spot};
 use sticky_index::index::StickyIndex;
 
 // The slices of a source's runs between two marks, one after another.
@@ -35,17 +37,52 @@ impl<S: Source> RangeIter<S> {
         }
     }
 
-    // Gives the source back.
+    // Gives the source back. Each field is named, since a source need not be `Drop`.
     pub fn close(self) -> S
         ensures { result ≡ self.iter }
     {
         let RangeIter {
             iter,
-            start: _start,
-            end: _end,
-            state: _state,
+            start: _,
+            end: _,
+            state: _,
         } = self;
         iter
+    }
+
+    // What comes of the next run, and how far the range has come then.
+    fn meet(&mut self, run: Run<S::Place>) -> Result<Option<ItemSlice<S::Place>>, Fault>
+        ensures kept { self.new.iter ≡ self.old.iter }
+        ensures answers { (ws : List (Run S.Place)) → Answers (gives self.old (run ∷ ws)) result (gives self.new ws) }
+    {
+        match self.state {
+            RangeIterState::Opened => match first_offset(run.about, self.start) {
+                Some(first) => self.cut_run(run, first),
+                None => Ok(None),
+            },
+            RangeIterState::InRange => self.cut_run(run, 0),
+            RangeIterState::Closed => Ok(None),
+        }
+    }
+
+    // What comes of a run from an offset on, and how far the range has come then.
+    fn cut_run(
+        &mut self,
+        run: Run<S::Place>,
+        first: u32,
+    ) -> Result<Option<ItemSlice<S::Place>>, Fault>
+        ensures kept { self.new.iter ≡ self.old.iter }
+        ensures answers { (ws : List (Run S.Place)) → Answers (cut run first self.old.end (course InRange self.old.start self.old.end ws)) result (gives self.new ws) }
+    {
+        let Some((id, offset)) = met_in(run.about, self.end) else {
+            self.state = RangeIterState::InRange;
+            return Ok(run.part(first, run.about.len));
+        };
+        self.state = RangeIterState::Closed;
+        if offset < first {
+            return Err(Fault::new(Part::Range, Code::Backwards, Spot::Unit(id)));
+        }
+        Ok(run.part(first, edge_at(self.end.assoc, offset)))
     }
 }
 
@@ -58,24 +95,14 @@ impl<S: Source> Slices for RangeIter<S> {
 
     // The next slice; none at the end. An end before the start is refused, and then nothing comes.
     fn next(&mut self) -> Result<Option<ItemSlice<S::Place>>, Fault> {
-        loop {
-            if let RangeIterState::Closed = self.state {
+        while self.state != RangeIterState::Closed {
+            let Some(run) = self.iter.next() else {
                 return Ok(None);
-            }
-            match self.iter.next() {
-                None => return Ok(None),
-                Some(run) => {
-                    let (state, answer) = meet(self.state, self.start, self.end, run);
-                    self.state = state;
-                    match answer {
-                        Err(fault) => return Err(fault),
-                        Ok(found) => match found {
-                            None => {}
-                            Some(slice) => return Ok(Some(slice)),
-                        },
-                    }
-                }
+            };
+            if let Some(slice) = self.meet(run)? {
+                return Ok(Some(slice));
             }
         }
+        Ok(None)
     }
 }

@@ -1,6 +1,6 @@
-ghost use Rattle.std.specs.Prelude.{ℕ};
+ghost use Rattle.std.specs.Prelude.{ℕ, ◌<◌, IfOk, IfSome};
 ghost use Rattle.iter.specs.Ranges.{Course};
-ghost use Rattle.iter.specs.Steps.{Told, Fewer};
+ghost use Rattle.iter.specs.Steps.{Told};
 
 use crate::slice::ItemSlice;
 use block::fault::Fault;
@@ -17,7 +17,8 @@ pub trait Slices {
     ghost left: { Self → ℕ };
 
     // The next slice, or the refusal; none at the end, and from then on.
+    // By the project's rule a walk is a step of its own name, and no `Iterator`.
     fn next(&mut self) -> Result<Option<ItemSlice<Self::Place>>, Fault>
         ensures told { (c : Course Self.Place) → coming self.old c → Told coming c result self.new }
-        ensures fewer { Fewer left self.old result self.new };
+        ensures fewer { IfOk result (λ next. IfSome next (λ _. left self.new < left self.old)) };
 }

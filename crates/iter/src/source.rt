@@ -1,5 +1,5 @@
-ghost use Rattle.std.specs.Prelude.{ℕ, List, []};
-ghost use Rattle.iter.specs.Runs.{Taken, Given, Fit, Nearer};
+ghost use Rattle.std.specs.Prelude.{ℕ, ◌<◌, List, [], IfSome};
+ghost use Rattle.iter.specs.Runs.{Taken, Given};
 ghost use Rattle.iter.specs.declared.run.Run.{Run};
 
 use crate::run::Run;
@@ -19,11 +19,11 @@ pub trait Source {
     ghost left: { Self → ℕ };
 
     // The next run; none exactly if none is still to come, and then nothing changes.
+    // By the project's rule a walk is a step of its own name, and no `Iterator`.
     fn next(&mut self) -> Option<Run<Self::Place>>
         ensures taken { (ws : List (Run Self.Place)) → ahead self.old ws → Taken ahead self.old ws result self.new }
         ensures given { Given ahead certain self.old result self.new }
-        ensures fit { Fit result }
-        ensures nearer { Nearer left self.old result self.new };
+        ensures nearer { IfSome result (λ _. left self.new < left self.old) };
 }
 
 // Takes all the runs that are still to come. Where it is certain which they are, there are such runs.

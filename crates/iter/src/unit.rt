@@ -10,36 +10,33 @@ use reader::reader::Reader;
 fn first_value<R: Reader>(reader: &R, slice: ItemSlice<R::Place>) -> Option<Slot>
     ensures { FirstValue (R.Reader.meaning reader.now) (R.Reader.stretch reader.now) (R.Reader.shown reader.now) slice result }
 {
-    match reader.describe(slice.place) {
-        None => None,
-        Some(run) => if run.live {
-            reader.value(slice.place, slice.start)
-        } else {
-            None
-        },
+    let place = slice.run.place;
+    let run = reader.describe(place)?;
+    if run.is_visible() {
+        reader.value(place, slice.start)
+    } else {
+        None
     }
 }
 
 // A slice without its first unit; none if no unit is left.
 fn without_first<P: Copy>(slice: ItemSlice<P>) -> Option<ItemSlice<P>>
-    ensures { (m : Meaning) (st : P → Option Stretch) → seen_held m st result ≡ seen_in m (st slice.place) (slice.start + 1) slice.end }
+    ensures { (m : Meaning) (st : P → Option Stretch) → seen_held m st result ≡ seen_in m (st slice.run.place) (slice.start + 1) slice.end }
 {
     let mut rest = slice;
-    if rest.trim_start(1) { Some(rest) } else { None }
+    rest.trim_start(1).then_some(rest)
 }
 
-// The value of the first visible unit of a slice that was begun, and what is left of the slice.
+// Takes the first unit from a slice that was begun, and gives its value. Where the slice has no visible
+// units, no slice is left.
 pub(crate) fn take_first<R: Reader>(
     reader: &R,
-    current: Option<ItemSlice<R::Place>>,
-) -> (Option<Slot>, Option<ItemSlice<R::Place>>)
-    ensures { FirstOf (R.Reader.shown reader.now) (seen_held (R.Reader.meaning reader.now) (R.Reader.stretch reader.now) current) result.0 (seen_held (R.Reader.meaning reader.now) (R.Reader.stretch reader.now) result.1) }
+    current: &mut Option<ItemSlice<R::Place>>,
+) -> Option<Slot>
+    ensures { FirstOf (R.Reader.shown reader.now) (seen_held (R.Reader.meaning reader.now) (R.Reader.stretch reader.now) current.old) result (seen_held (R.Reader.meaning reader.now) (R.Reader.stretch reader.now) current.new) }
 {
-    match current {
-        None => (None, None),
-        Some(slice) => match first_value(reader, slice) {
-            None => (None, None),
-            Some(slot) => (Some(slot), without_first(slice)),
-        },
-    }
+    let slice = current.take()?;
+    let slot = first_value(reader, slice)?;
+    *current = without_first(slice);
+    Some(slot)
 }

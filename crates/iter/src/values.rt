@@ -28,34 +28,31 @@ impl<R: Reader, I: Slices<Place = R::Place>> Values<R, I> {
     }
 
     // The value of the next visible unit; none at the end. Where the slices are refused, so is this.
+    // By the project's rule a walk is a step of its own name, and no `Iterator`.
     pub fn next(&mut self) -> Result<Option<Slot>, Fault>
         ensures kept { self.new.reader ≡ self.old.reader }
         ensures next { (c : Course R.Place) → I.Slices.coming self.old.iter c → Yields (R.Reader.meaning self.old.reader) (R.Reader.stretch self.old.reader) (R.Reader.shown self.old.reader) I.Slices.coming self.old.current c result self.new.iter self.new.current }
     {
         loop {
-            let (value, rest) = take_first(&self.reader, self.current);
-            self.current = rest;
-            if let Some(slot) = value {
-                return Ok(Some(slot));
+            let value = take_first(&self.reader, &mut self.current);
+            if value.is_some() {
+                return Ok(value);
             }
-            match self.iter.next() {
-                Err(fault) => return Err(fault),
-                Ok(found) => match found {
-                    None => return Ok(None),
-                    Some(slice) => self.current = Some(slice),
-                },
-            }
+            let Some(slice) = self.iter.next()? else {
+                return Ok(None);
+            };
+            self.current = Some(slice);
         }
     }
 
-    // Gives the reader and the slices back.
+    // Gives the reader and the slices back. Each field is named, since a reader need not be `Drop`.
     pub fn close(self) -> (R, I)
         ensures { (result.0 ≡ self.reader) × (result.1 ≡ self.iter) }
     {
         let Values {
             reader,
             iter,
-            current: _current,
+            current: _,
         } = self;
         (reader, iter)
     }

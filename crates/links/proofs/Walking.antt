@@ -1,5 +1,5 @@
 -- The walk to the right, step by step.
-use Rattle.std.proofs.Common.{◌≡◌, ℕ, zero, suc, ◌-◌, true, false, Some, None, refl, arith}
+use Rattle.std.proofs.Common.{◌≡◌, ℕ, zero, suc, ◌-◌, true, false, Option, Some, None, refl, arith}
 use Rattle.std.proofs.lemmas.Bool.{eq-eqb, ne_eqb}
 use Rattle.store.specs.Records.{Store, run_at}
 use Rattle.links.specs.Walks.{meets}
@@ -9,10 +9,11 @@ module _ (s : Store) (i : ℕ) where
   unfolding meets
   meets_none n = refl
 
-  pub meets_out : (j n : ℕ) → n ≡ 0 → meets s i (Some j) n ≡ false
+  pub meets_out : (o : Option ℕ) (n : ℕ) → n ≡ 0 → meets s i o n ≡ false
   unfolding meets
-  meets_out j zero e = refl
-  meets_out j (suc n) e = absurd (omega arith)
+  meets_out None n e = refl
+  meets_out (Some j) zero e = refl
+  meets_out (Some j) (suc n) e = absurd (omega arith)
 
   pub meets_here : (j n : ℕ) → (n ≡ 0 → ⊥) → j ≡ i → meets s i (Some j) n ≡ true
   unfolding meets

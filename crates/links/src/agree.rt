@@ -11,12 +11,7 @@ use store::records::{ClientRecord, View};
 fn is_recorded(view: &View<'_>, client: u64) -> bool
     ensures { result ≡ is_recorded (held view.now) client }
 {
-    for record in view.clients {
-        if record.client == client {
-            return true;
-        }
-    }
-    false
+    view.clients.iter().any(|record| record.client == client)
 }
 
 fn run_agrees(view: &View<'_>, i: usize) -> bool
@@ -34,12 +29,7 @@ fn run_agrees(view: &View<'_>, i: usize) -> bool
 pub fn first_run(view: &View<'_>) -> Option<usize>
     ensures { result ≡ first_bad (run_agrees_at (held view.now)) (length (held view.now).runs) }
 {
-    for i in 0..view.runs.len() {
-        if !run_agrees(view, i) {
-            return Some(i);
-        }
-    }
-    None
+    (0..view.runs.len()).find(|&i| !run_agrees(view, i))
 }
 
 fn list_agrees(view: &View<'_>, l: usize) -> bool
@@ -55,12 +45,7 @@ fn list_agrees(view: &View<'_>, l: usize) -> bool
 pub fn first_list(view: &View<'_>) -> Option<usize>
     ensures { result ≡ first_bad (list_agrees_at (held view.now)) (length (held view.now).lists) }
 {
-    for l in 0..view.lists.len() {
-        if !list_agrees(view, l) {
-            return Some(l);
-        }
-    }
-    None
+    (0..view.lists.len()).find(|&l| !list_agrees(view, l))
 }
 
 fn client_agrees(view: &View<'_>, client: ClientRecord) -> bool
@@ -73,10 +58,7 @@ fn client_agrees(view: &View<'_>, client: ClientRecord) -> bool
 pub fn first_client(view: &View<'_>) -> Option<usize>
     ensures { result ≡ first_bad (client_agrees_at (held view.now)) (length (held view.now).clients) }
 {
-    for (i, client) in view.clients.iter().enumerate() {
-        if !client_agrees(view, *client) {
-            return Some(i);
-        }
-    }
-    None
+    view.clients
+        .iter()
+        .position(|client| !client_agrees(view, *client))
 }

@@ -1,6 +1,6 @@
 ghost use Rattle.std.specs.Prelude.{◌≡◌, ℕ, ◌<◌, length, ◌==◌};
 ghost use Rattle.store.specs.Records.{held};
-ghost use Rattle.links.specs.Lengths.{weight, share, visible_sum, later, last_end};
+ghost use Rattle.links.specs.Lengths.{weight, share, visible_sum, last_end};
 
 use crate::walks::is;
 use store::clocks::end_of;
@@ -28,34 +28,22 @@ fn share(l: usize, run: RunRecord) -> u32
 pub(crate) fn has_length(view: &View<'_>, l: usize, len: u32) -> bool
     ensures { result ≡ (len == visible_sum (held view.now) l (length (held view.now).runs)) }
 {
-    let mut rest = len;
-    for run in view.runs {
-        let part = share(l, *run);
-        if part > rest {
-            return false;
-        }
-        rest -= part;
-    }
-    rest == 0
-}
-
-fn later(client: u64, clock: u64, run: RunRecord) -> u64
-    ensures { result ≡ later client clock run }
-{
-    if run.id.client == client && clock < end_of(run) {
-        end_of(run)
-    } else {
-        clock
-    }
+    // a sum that reaches the greatest number stays there, past the length of any list
+    let sum = view
+        .runs
+        .iter()
+        .fold(0u64, |sum, run| sum.saturating_add(share(l, *run) as u64));
+    sum == len as u64
 }
 
 // The clock after the last unit of a client.
 pub(crate) fn last_end(view: &View<'_>, client: u64) -> u64
     ensures { result ≡ last_end (held view.now) client (length (held view.now).runs) }
 {
-    let mut last = 0;
-    for run in view.runs {
-        last = later(client, last, *run);
-    }
-    last
+    view.runs
+        .iter()
+        .filter(|run| run.id.client == client)
+        .map(|run| end_of(*run))
+        .max()
+        .unwrap_or(0)
 }

@@ -1,58 +1,57 @@
-ghost use Rattle.std.specs.Prelude.{◌≡◌, ℕ, ◌<◌, length};
+ghost use Rattle.std.specs.Prelude.{◌≡◌, ℕ, ◌<◌, length, Option};
+ghost use Rattle.store.specs.declared.records.RunRecord.{RunRecord};
 ghost use Rattle.store.specs.Records.{held};
-ghost use Rattle.links.specs.Walks.{is, same, left_agrees, right_agrees, meets, is_reached, start_agrees};
+ghost use Rattle.links.specs.Walks.{is, neighbour_agrees, left_agrees, right_agrees, meets, is_reached, start_agrees};
 
-use store::records::View;
+use store::records::{RunRecord, View};
 
 // Whether this is the number that is named.
 pub(crate) fn is(at: Option<u32>, i: usize) -> bool
     ensures { result ≡ is at i }
 {
-    match at {
-        None => false,
-        Some(j) => j as usize == i,
-    }
+    at.is_some_and(|j| j as usize == i)
 }
 
-fn are_same(a: Option<u32>, b: Option<u32>) -> bool
-    ensures { result ≡ same a b }
+// Whether a run's neighbour names it in turn, by the neighbour that `back` reads, and is in its list.
+fn neighbour_agrees<F: Fn(RunRecord) -> Option<u32>>(
+    view: &View<'_>,
+    i: usize,
+    neighbour: Option<u32>,
+    back: F,
+) -> bool
+    requires { F.IsAlwaysCallable back }
+    ensures { (side : RunRecord → Option ℕ) → ((run : RunRecord) (at : Option ℕ) → F.post back run at → at ≡ side run) → result ≡ neighbour_agrees side (held view.now) i neighbour }
 {
-    match a {
-        None => b.is_none(),
-        Some(i) => is(b, i as usize),
-    }
+    let Some(j) = neighbour else {
+        return true;
+    };
+    let other = view.run(j as usize);
+    is(back(other), i) && other.list == view.run(i).list
 }
 
 // Whether a run's left neighbour names it in turn.
 pub(crate) fn left_agrees(view: &View<'_>, i: usize, left: Option<u32>) -> bool
     ensures { result ≡ left_agrees (held view.now) i left }
 {
-    match left {
-        None => true,
-        Some(j) => is(view.run(j as usize).right, i)
-            && are_same(view.run(j as usize).list, view.run(i).list),
-    }
+    neighbour_agrees(view, i, left, |other| other.right)
 }
 
 // Whether a run's right neighbour names it in turn.
 pub(crate) fn right_agrees(view: &View<'_>, i: usize, right: Option<u32>) -> bool
     ensures { result ≡ right_agrees (held view.now) i right }
 {
-    match right {
-        None => true,
-        Some(j) => is(view.run(j as usize).left, i)
-            && are_same(view.run(j as usize).list, view.run(i).list),
-    }
+    neighbour_agrees(view, i, right, |other| other.left)
 }
 
 // Whether a list starts at a run of its own that has no left neighbour.
 pub(crate) fn start_agrees(view: &View<'_>, l: usize, start: Option<u32>) -> bool
     ensures { result ≡ start_agrees (held view.now) l start }
 {
-    match start {
-        None => true,
-        Some(i) => view.run(i as usize).left.is_none() && is(view.run(i as usize).list, l),
-    }
+    let Some(i) = start else {
+        return true;
+    };
+    let run = view.run(i as usize);
+    run.left.is_none() && is(run.list, l)
 }
 
 // Whether a walk to the right meets the run.
@@ -60,15 +59,13 @@ fn meets(view: &View<'_>, i: usize, start: Option<u32>) -> bool
     ensures { result ≡ meets (held view.now) i start (length (held view.now).runs) }
 {
     let mut at = start;
-    let mut fuel = view.runs.len();
-    while let Some(j) = at {
-        if fuel == 0 {
+    for _step in 0..view.runs.len() {
+        let Some(j) = at else {
             return false;
-        }
+        };
         if j as usize == i {
             return true;
         }
-        fuel -= 1;
         at = view.run(j as usize).right;
     }
     false
@@ -78,8 +75,8 @@ fn meets(view: &View<'_>, i: usize, start: Option<u32>) -> bool
 pub(crate) fn is_reached(view: &View<'_>, i: usize, list: Option<u32>) -> bool
     ensures { result ≡ is_reached (held view.now) i list }
 {
-    match list {
-        None => true,
-        Some(l) => meets(view, i, view.list(l as usize).start),
-    }
+    let Some(l) = list else {
+        return true;
+    };
+    meets(view, i, view.list(l as usize).start)
 }

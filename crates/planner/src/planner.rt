@@ -8,7 +8,7 @@ use reader::reader::Reader;
 use sticky_index::index::{Offset, StickyIndex};
 
 // Where a mark stands, and how many of the steps that follow it were read.
-#[derive(Clone, Copy)]
+#[derive(Clone, Copy, PartialEq, Eq, Debug)]
 pub struct Steps {
     pub at: Offset,
     pub read: usize,
@@ -23,26 +23,11 @@ pub fn steps_from<R: Reader>(
 ) -> Result<Steps, Fault>
     ensures { Follows (R.Reader.layers reader.now) (R.Reader.meaning reader.now) (R.Reader.shown reader.now) mark slots.old slots.new result }
 {
-    let at = match mark.get_offset(reader) {
-        Err(e) => return Err(e),
-        Ok(at) => at,
-    };
-    match BlockIter::open(reader, at.list) {
-        Err((_, e)) => Err(e),
-        Ok(opened) => {
-            let mut cursor = opened;
-            let left = cursor.len().saturating_sub(at.index) as usize;
-            let read = slots.len().min(left);
-            let skipped = cursor.try_forward(at.index);
-            let filled = cursor.slice(&mut slots[0..read]);
-            let _ = cursor.close();
-            match skipped {
-                Err(e) => Err(e),
-                Ok(()) => match filled {
-                    Err(e) => Err(e),
-                    Ok(()) => Ok(Steps { at, read }),
-                },
-            }
-        }
-    }
+    let at = mark.get_offset(reader)?;
+    let mut cursor = BlockIter::open(reader, at.list).map_err(|(_, fault)| fault)?;
+    let left = cursor.len().saturating_sub(at.index) as usize;
+    let read = slots.len().min(left);
+    cursor.try_forward(at.index)?;
+    cursor.slice(&mut slots[..read])?;
+    Ok(Steps { at, read })
 }

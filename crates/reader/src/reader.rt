@@ -1,4 +1,5 @@
-ghost use Rattle.std.specs.Prelude.{◌≡◌, ℕ, Some, Option};
+ghost use Rattle.std.specs.Prelude.{◌≡◌, ℕ, ◌&&◌, if◌then◌else◌, Some, Option};
+ghost use Rattle.block.specs.Kinds.{is_counted};
 ghost use Rattle.block.specs.Units.{Meaning, Lawful, Stretch, RunOf, Worth};
 ghost use Rattle.block.specs.declared.kind.Kind.{Kind};
 ghost use Rattle.block.specs.declared.slot.Slot.{Slot};
@@ -11,7 +12,7 @@ use block::slot::{Slot, Value};
 
 // What is said of a run: the id of its first unit, its length, the kind, life and successor that all
 // its units share, and its list.
-#[derive(Clone, Copy)]
+#[derive(Clone, Copy, PartialEq, Eq, Debug)]
 pub struct Description {
     pub id: Id,
     pub len: u32,
@@ -19,6 +20,22 @@ pub struct Description {
     pub live: bool,
     pub list: u32,
     pub redone: Option<Id>,
+}
+
+impl Description {
+    // Whether the units of the run are visible.
+    pub fn is_visible(self) -> bool
+        ensures { result ≡ (self.live && is_counted self.kind) }
+    {
+        self.live && self.kind.is_countable()
+    }
+
+    // How many visible units the run has.
+    pub fn visible_len(self) -> u32
+        ensures { result ≡ (if self.live && is_counted self.kind then self.len else 0) }
+    {
+        if self.is_visible() { self.len } else { 0 }
+    }
 }
 
 // A document that can be asked. A question changes nothing; the only refusal is a list that is not

@@ -1,6 +1,6 @@
 -- The sample's answers, run by run.
-use Rattle.std.proofs.Common.{◌≡◌, ℕ, zero, suc, ◌+◌, ◌-◌, ◌<◌, List, [], ◌∷◌, ◌++◌, map, length, get_or, take, drop, set, Some, Option, sym, refl, ap, ◌∙◌, subst, arith, length-drop}
-use Rattle.std.proofs.lemmas.List.{take_more_set, map_push, map_more, get_or-drop, drop-set-lt, drop-drop}
+use Rattle.std.proofs.Common.{◌≡◌, ℕ, zero, suc, ◌+◌, ◌-◌, ◌<◌, List, [], ◌∷◌, ◌++◌, map, length, get_or, take, set, Some, Option, sym, refl, ap, ◌∙◌, subst, arith, length-drop}
+use Rattle.std.proofs.lemmas.List.{take_more_set, map_push, map_more, get_or-drop}
 use Rattle.block.specs.declared.slot.Slot.{Slot}
 use Rattle.block.specs.Units.{Stretch, UnitOf, no_unit, unit_at}
 use Rattle.block.specs.Values.{facet}
@@ -60,6 +60,3 @@ read_more p offset i xs v e h g inv =
     let here : get_or us i no_unit ≡ unit_at sample (span p).list ((span p).from + (offset + i)) = get_or-drop ((span p).from + offset) (units_of (span p).list) i no_unit ∙ ap (unit_at sample (span p).list) (omega arith) in
     let shown : shows v ≡ Some (facet (get_or us i no_unit)) = ap shows e ∙ shown_at p (offset + i) g ∙ sym (ap (λ (u : UnitOf). Some (facet u)) here) in
     ap (map shows) (take_more_set xs i v h) ∙ map_push shows (take i xs) v ∙ ap (λ ys. ys ++ (shows v ∷ [])) inv ∙ ap (λ y. map (λ u. Some (facet u)) (take i us) ++ (y ∷ [])) shown ∙ sym (map_more (λ u. Some (facet u)) us i no_unit long)
-
-pub rest_more : (i : ℕ) (xs ys : List Slot) (v : Slot) → drop i xs ≡ drop i ys → drop (i + 1) (set xs i v) ≡ drop (i + 1) ys
-rest_more i xs ys v e = drop-set-lt (i + 1) xs i v (omega arith) ∙ sym (drop-drop 1 i xs) ∙ ap (drop 1) e ∙ drop-drop 1 i ys

@@ -6,6 +6,7 @@ use Rattle.block.specs.declared.kind.Kind.TheVariants as kinds
 use Rattle.block.specs.declared.slot.Slot.{Slot}
 use Rattle.block.specs.declared.slot.Slot.TheVariants as slots
 use Rattle.block.specs.Units.{Meaning, Stretch, UnitOf, Worth, bytes, nested, unit_at}
+use Rattle.block.specs.Values.{part_of}
 use Rattle.reader.specs.declared.reader.Description.{Description}
 use Rattle.sample.specs.declared.sample.Run.{Run}
 use Rattle.sample.specs.declared.sample.Run.TheVariants.{Ab, Bold, Xy, Nest, C, Inner}
@@ -90,20 +91,6 @@ slot_for Xy k = slots.Content kinds.Text (2 + k) 1
 slot_for Nest k = slots.List 1
 slot_for C k = slots.Content kinds.Text 4 1
 slot_for Inner k = slots.Content kinds.Text 5 2
-
--- bytes as a value of a kind; none for a kind that has no bytes
-abbrev pub part_of : Kind → List ℕ → Option (Kind × Worth)
-part_of kinds.Gc b = None
-part_of kinds.Deleted b = None
-part_of kinds.Json b = Some (kinds.Json, bytes b)
-part_of kinds.Binary b = Some (kinds.Binary, bytes b)
-part_of kinds.Text b = Some (kinds.Text, bytes b)
-part_of kinds.Embed b = Some (kinds.Embed, bytes b)
-part_of kinds.Format b = None
-part_of kinds.List b = None
-part_of kinds.Any b = Some (kinds.Any, bytes b)
-part_of kinds.Doc b = Some (kinds.Doc, bytes b)
-part_of kinds.Skip b = None
 
 -- what a slot shows: a part of the content, or a list that is there
 abbrev pub shows : Slot → Option (Kind × Worth)

@@ -1,6 +1,6 @@
 ghost use Rattle.std.specs.Prelude.{◌≡◌, ◌<◌, ◌≤◌, Some};
-ghost use Rattle.reader.specs.Answers.{no_list, faces};
-ghost use Rattle.sample.specs.Sample.{sample as meant, span, shows, width, slot_for, part_of, told, Stands};
+ghost use Rattle.reader.specs.Answers.{no_list};
+ghost use Rattle.sample.specs.Sample.{sample as meant, span, shows, width, slot_for, told, Stands};
 ghost use Rattle.sample.specs.SampleFacts.{sample_lawful, sample_settled, sample_faithful};
 
 use block::fault::{Code, Fault, Part, Spot};
@@ -32,12 +32,7 @@ static CONTENT: [u8; 7] = *b"abXYc\xC3\xA9";
 fn no_list(list: u32) -> Fault
     ensures { result ≡ no_list 0 list }
 {
-    Fault {
-        code: Code::NoSuchList,
-        part: Part::Tables,
-        spot: Spot::List(list),
-        clips: 0,
-    }
+    Fault::new(Part::Tables, Code::NoSuchList, Spot::List(list))
 }
 
 // The run with a client's unit at a clock, and the offset in it. All known units are listed, so there
@@ -45,22 +40,13 @@ fn no_list(list: u32) -> Fault
 fn run_at(client: u64, clock: u32) -> Option<(Run, u32)>
     ensures { Stands client clock result }
 {
-    match client {
-        5 => match clock {
-            0 | 1 => Some((Run::Ab, clock)),
-            2 => Some((Run::C, 0)),
-            3 => Some((Run::Bold, 0)),
-            _ => None,
-        },
-        7 => match clock {
-            0 => Some((Run::Inner, 0)),
-            _ => None,
-        },
-        9 => match clock {
-            0 | 1 => Some((Run::Xy, clock)),
-            2 => Some((Run::Nest, 0)),
-            _ => None,
-        },
+    match (client, clock) {
+        (5, 0 | 1) => Some((Run::Ab, clock)),
+        (5, 2) => Some((Run::C, 0)),
+        (5, 3) => Some((Run::Bold, 0)),
+        (7, 0) => Some((Run::Inner, 0)),
+        (9, 0 | 1) => Some((Run::Xy, clock)),
+        (9, 2) => Some((Run::Nest, 0)),
         _ => None,
     }
 }
@@ -105,21 +91,6 @@ fn slot_at(run: Run, offset: u32) -> Slot
             start: 5,
             len: 2,
         },
-    }
-}
-
-// Bytes as a value of a kind; none for a kind that has no bytes.
-fn part(kind: Kind, bytes: &[u8]) -> Option<Value<'_>>
-    ensures { faces result ≡ part_of kind bytes.now }
-{
-    match kind {
-        Kind::Json => Some(Value::Json(bytes)),
-        Kind::Binary => Some(Value::Binary(bytes)),
-        Kind::Text => Some(Value::Text(bytes)),
-        Kind::Embed => Some(Value::Embed(bytes)),
-        Kind::Any => Some(Value::Any(bytes)),
-        Kind::Doc => Some(Value::Doc(bytes)),
-        Kind::Gc | Kind::Deleted | Kind::Format | Kind::List | Kind::Skip => None,
     }
 }
 
@@ -187,18 +158,12 @@ impl Reader for Sample {
             Run::Ab => live_run(5, 0, 2, Kind::Text, 0),
             Run::Bold => live_run(5, 3, 1, Kind::Format, 0),
             Run::Xy => Description {
-                id: Id {
-                    client: 9,
-                    clock: 0,
-                },
-                len: 2,
-                kind: Kind::Text,
                 live: false,
-                list: 0,
                 redone: Some(Id {
                     client: 5,
                     clock: 0,
                 }),
+                ..live_run(9, 0, 2, Kind::Text, 0)
             },
             Run::Nest => live_run(9, 2, 1, Kind::List, 0),
             Run::C => live_run(5, 2, 1, Kind::Text, 0),
@@ -212,10 +177,7 @@ impl Reader for Sample {
     }
 
     fn nearest(&self, client: u64, clock: u32) -> Option<Run> {
-        match run_at(client, clock) {
-            None => None,
-            Some((run, _)) => Some(run),
-        }
+        run_at(client, clock).map(|(run, _)| run)
     }
 
     fn known(&self, client: u64) -> u32 {
@@ -249,8 +211,8 @@ impl Reader for Sample {
     fn read(&self, place: Run, offset: u32, slots: &mut [Slot]) -> usize {
         let left = values_of(place).saturating_sub(offset) as usize;
         let many = left.min(slots.len());
-        for i in 0..many {
-            slots[i] = slot_at(place, offset + i as u32);
+        for (i, slot) in slots[..many].iter_mut().enumerate() {
+            *slot = slot_at(place, offset + i as u32);
         }
         many
     }
@@ -258,18 +220,11 @@ impl Reader for Sample {
     fn show(&self, slot: Slot) -> Option<Value<'_>> {
         match slot {
             Slot::Empty => None,
-            Slot::List(list) => if list < 2 {
-                Some(Value::List(list))
-            } else {
-                None
-            },
+            Slot::List(list) => (list < 2).then_some(Value::List(list)),
             Slot::Content { kind, start, len } => {
                 let from = start as usize;
-                let end = from + len as usize;
-                if end > CONTENT.len() {
-                    return None;
-                }
-                part(kind, &CONTENT[from..end])
+                let bytes = CONTENT.get(from..from + len as usize)?;
+                Value::new(kind, bytes)
             }
         }
     }

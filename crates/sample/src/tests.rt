@@ -1,6 +1,6 @@
 use crate::sample::Sample;
 use array::array::ArrayRef;
-use block::call::{Call, Outcome};
+use block::call::Call;
 use block::fault::{Code, Fault, Part, Spot};
 use block::kind::Kind;
 use block::slot::{Slot, Value};
@@ -41,7 +41,7 @@ const FAR: Fault = Fault {
 // What no call leaves in a slot or an outcome.
 const OLD: Slot = Slot::List(99);
 
-const UNMADE: Outcome = Outcome::Refused(Fault {
+const UNMADE: Result<(), Fault> = Err(Fault {
     code: Code::Misplaced,
     part: Part::Edit,
     spot: Spot::Nowhere,
@@ -51,18 +51,10 @@ const UNMADE: Outcome = Outcome::Refused(Fault {
 // What a cursor on list 0 answers to the second of two skips, its index then, and whether it is at
 // the end.
 fn skipped(first: u32, second: u32) -> Result<(Result<(), Fault>, u32, bool), Fault> {
-    match BlockIter::open(&Sample, 0) {
-        Err((_, e)) => Err(e),
-        Ok(opened) => {
-            let mut cursor = opened;
-            let _ = cursor.try_forward(first);
-            let answer = cursor.try_forward(second);
-            let index = cursor.index();
-            let finished = cursor.finished();
-            let _ = cursor.close();
-            Ok((answer, index, finished))
-        }
-    }
+    let mut cursor = BlockIter::open(&Sample, 0).map_err(|(_, fault)| fault)?;
+    let _ = cursor.try_forward(first);
+    let answer = cursor.try_forward(second);
+    Ok((answer, cursor.index(), cursor.finished()))
 }
 
 #[test]
@@ -91,68 +83,40 @@ fn skips(rt: HostRuntime) -> Result<(), Fail> {
 
 #[test]
 fn reads(rt: HostRuntime) -> Result<(), Fail> {
-    match BlockIter::open(&Sample, 0) {
-        Err(_) => Err(Fail::new("list 0 is there")),
-        Ok(opened) => {
-            let mut cursor = opened;
-            let mut five = [OLD; 5];
-            let mut one = [OLD; 1];
-            let mut two = [OLD; 2];
-            let mut last = [OLD; 1];
-            let refused = cursor.slice(&mut five);
-            let answers = [
-                cursor.slice(&mut one),
-                cursor.slice(&mut two),
-                cursor.slice(&mut last),
-            ];
-            let end = (cursor.index(), cursor.finished(), cursor.read_value());
-            let _ = cursor.close();
-            assert_eq!(rt; refused, Err(FAR));
-            assert_eq!(rt; five, [OLD; 5]);
-            assert_eq!(rt; answers, [Ok(()); 3]);
-            assert_eq!(rt; one, [LETTER_A]);
-            assert_eq!(rt; two, [LETTER_B, NESTED]);
-            assert_eq!(rt; last, [LETTER_C]);
-            assert_eq!(rt; end, (4, true, None));
-            Ok(())
-        }
-    }
+    let mut cursor = BlockIter::open(&Sample, 0).map_err(|(_, fault)| fault)?;
+    let mut five = [OLD; 5];
+    let mut one = [OLD; 1];
+    let mut two = [OLD; 2];
+    let mut last = [OLD; 1];
+    assert_eq!(rt; cursor.slice(&mut five), Err(FAR));
+    assert_eq!(rt; cursor.slice(&mut one), Ok(()));
+    assert_eq!(rt; cursor.slice(&mut two), Ok(()));
+    assert_eq!(rt; cursor.slice(&mut last), Ok(()));
+    assert_eq!(rt; five, [OLD; 5]);
+    assert_eq!(rt; one, [LETTER_A]);
+    assert_eq!(rt; two, [LETTER_B, NESTED]);
+    assert_eq!(rt; last, [LETTER_C]);
+    let end = (cursor.index(), cursor.finished(), cursor.read_value());
+    assert_eq!(rt; end, (4, true, None));
+    Ok(())
 }
 
 #[test]
 fn read_values(rt: HostRuntime) -> Result<(), Fail> {
-    match BlockIter::open(&Sample, 0) {
-        Err(_) => Err(Fail::new("list 0 is there")),
-        Ok(opened) => {
-            let mut cursor = opened;
-            let got = [
-                cursor.read_value(),
-                cursor.read_value(),
-                cursor.read_value(),
-                cursor.read_value(),
-                cursor.read_value(),
-            ];
-            let _ = cursor.close();
-            assert_eq!(rt;
-                got,
-                [
-                    Some(LETTER_A),
-                    Some(LETTER_B),
-                    Some(NESTED),
-                    Some(LETTER_C),
-                    None,
-                ]
-            );
-            Ok(())
-        }
-    }
+    let mut cursor = BlockIter::open(&Sample, 0).map_err(|(_, fault)| fault)?;
+    assert_eq!(rt; cursor.read_value(), Some(LETTER_A));
+    assert_eq!(rt; cursor.read_value(), Some(LETTER_B));
+    assert_eq!(rt; cursor.read_value(), Some(NESTED));
+    assert_eq!(rt; cursor.read_value(), Some(LETTER_C));
+    assert_eq!(rt; cursor.read_value(), None);
+    Ok(())
 }
 
 // What a replay came to, in a word and a number.
 fn told(res: Result<Replayed, Refusal>) -> (&'static str, usize) {
     match res {
         Ok(p) => ("used", p.used),
-        Err(Refusal::Refused(e)) => ("fault", usize::from(e.code.number())),
+        Err(Refusal::Refused(e)) => ("fault", usize::from(u8::from(e.code))),
         Err(Refusal::FewOutcomes { needed }) => ("few outcomes", needed),
         Err(Refusal::FewSlots { needed }) => ("few slots", needed),
     }
@@ -160,8 +124,8 @@ fn told(res: Result<Replayed, Refusal>) -> (&'static str, usize) {
 
 #[test]
 fn replays(rt: HostRuntime) {
-    let done = Outcome::Done;
-    let far = Outcome::Refused(FAR);
+    let done = Ok(());
+    let far = Err(FAR);
     let all = [LETTER_A, LETTER_B, NESTED, LETTER_C];
     let none = [OLD; 4];
     let cases = [
@@ -192,7 +156,11 @@ fn replays(rt: HostRuntime) {
 }
 
 // Replays four calls, of which the second is refused.
-fn four_calls(list: u32, outcomes: &mut [Outcome], slots: &mut [Slot]) -> (&'static str, usize) {
+fn four_calls(
+    list: u32,
+    outcomes: &mut [Result<(), Fault>],
+    slots: &mut [Slot],
+) -> (&'static str, usize) {
     let calls = [Call::Read(2), Call::Read(9), Call::Skip(1), Call::Read(1)];
     let (_, result) = replay(&Sample, list, &calls, outcomes, slots);
     told(result)
@@ -200,8 +168,8 @@ fn four_calls(list: u32, outcomes: &mut [Outcome], slots: &mut [Slot]) -> (&'sta
 
 #[test]
 fn buffers(rt: HostRuntime) {
-    let done = Outcome::Done;
-    let far = Outcome::Refused(FAR);
+    let done = Ok(());
+    let far = Err(FAR);
     let mut short = [UNMADE; 3];
     let mut exact = [UNMADE; 4];
     let mut long = [UNMADE; 5];
@@ -252,38 +220,24 @@ fn arrays(rt: HostRuntime) -> Result<(), Fail> {
         face(ArrayRef::new(&Sample, 1).get(0)),
         b"\xC3\xA9".as_slice()
     );
-    match list.iter() {
-        Err(_) => Err(Fail::new("list 0 is there")),
-        Ok(opened) => {
-            let mut steps = opened;
-            let a = face(steps.next());
-            let b = face(steps.next());
-            let nested = face(steps.next());
-            let c = face(steps.next());
-            let end = face(steps.next());
-            steps.close();
-            assert_eq!(rt; a, b"a".as_slice());
-            assert_eq!(rt; b, b"b".as_slice());
-            assert_eq!(rt; nested, b"list 1".as_slice());
-            assert_eq!(rt; c, b"c".as_slice());
-            assert_eq!(rt; end, b"none".as_slice());
-            Ok(())
-        }
-    }
+    let mut steps = list.iter()?;
+    assert_eq!(rt; face(steps.next()), b"a".as_slice());
+    assert_eq!(rt; face(steps.next()), b"b".as_slice());
+    assert_eq!(rt; face(steps.next()), b"list 1".as_slice());
+    assert_eq!(rt; face(steps.next()), b"c".as_slice());
+    assert_eq!(rt; face(steps.next()), b"none".as_slice());
+    steps.close();
+    assert_eq!(rt; face(list.iter()?.nth(3)), b"c".as_slice());
+    Ok(())
 }
 
 #[test]
 fn faults(rt: HostRuntime) -> Result<(), Fail> {
-    match BlockIter::open(Sample, 2) {
-        Ok(cursor) => {
-            let _ = cursor.close();
-            return Err(Fail::new("there is no list 2"));
-        }
-        Err((back, fault)) => {
-            assert_eq!(rt; fault.code.number(), 5);
-            assert_eq!(rt; back.length(0)?, 4);
-        }
-    }
+    let Err((back, fault)) = BlockIter::open(Sample, 2) else {
+        return Err(Fail::new("there is no list 2"));
+    };
+    assert_eq!(rt; u8::from(fault.code), 5);
+    assert_eq!(rt; back.length(0)?, 4);
     let far = FAR;
     let line = format!(in rt.alloc(); "{far}")?;
     assert_eq!(rt;

@@ -43,20 +43,6 @@ module _ {P : Type 0} (m : Meaning) (st : P → Option Stretch) (settled : (p : 
   to_start None = 0
   to_start (Some p) = behind (st p)
 
-  abbrev pub Nearer : P → Option P → Type 0
-  Nearer p r = to_start r < to_start (Some p)
-
-  back_near : (p : P) (t : Stretch) (r : Option P) → st p ≡ Some t → Backward st t.list t.from r → Nearer p r
-  back_near p t None e h = rw e (omega arith)
-  back_near p t (Some q) e (f, n, g, s) = rw (e, g) (omega (arith, (settled p t e).some))
-
-  back_less_o : (p : P) (r : Option P) (o : Option Stretch) → st p ≡ o → Left m st p r → Nearer p r
-  back_less_o p r None e h = rw (e, h.0 e) (omega arith)
-  back_less_o p r (Some t) e h = back_near p t r e (h.1 t e)
-
-  pub back_less : (p : P) (r : Option P) → Left m st p r → Nearer p r
-  back_less p r h = back_less_o p r (st p) refl h
-
   -- one run more to the left
   pub back_step : (p : P) (l e n all : ℕ) (r : Option P) → Ends st p l e → n + count m l e ≡ all → Left m st p r → (f : ℕ) × Backward st l f r × ((n + run_adds m (st p)) + count m l f ≡ all)
   back_step p l e n all r (f, c, q, s) h left =

@@ -1,11 +1,12 @@
 -- What a reader finds, by the look-up of ids.
-use Rattle.std.proofs.Common.{◌≡◌, ℕ, zero, suc, ◌+◌, false, Some, None, Ok, Err, Option, sym, refl, ap, ◌∙◌, subst, arith}
+use Rattle.std.proofs.Common.{◌≡◌, ℕ, zero, suc, ◌+◌, Some, None, Ok, Err, Option, Result, sym, refl, ap, ◌∙◌, subst, arith}
+use Rattle.std.specs.Option.{ok_or}
 use Rattle.block.specs.declared.ids.Id.{Id}
 use Rattle.block.specs.declared.fault.Fault.{Fault}
 use Rattle.block.specs.declared.fault.Code.TheVariants.{TooManyRedone}
 use Rattle.block.specs.declared.fault.Spot.TheVariants as spots
 use Rattle.block.specs.Units.{Meaning, Stretch, Lawful, RunOf, unit_at}
-use Rattle.block.specs.Lookup.{where_is, live_at, held_up, upheld}
+use Rattle.block.specs.Lookup.{where_is}
 use Rattle.block.proofs.Lookups.{where_at, where_some, not_there}
 use Rattle.reader.specs.Answers.{Found, Described, described}
 use Rattle.reader.specs.declared.reader.Description.{Description}
@@ -18,7 +19,7 @@ described_some m None d h = let z : ◌≡◌ {A = ℕ} 0 1 = cc in absurd (omeg
 described_some m (Some t) d h = (t, refl, cc)
 
 module _ {P : Type 0} (m : Meaning) (st : P → Option Stretch) (law : Lawful m) (settled : (p : P) (t : Stretch) → st p ≡ Some t → RunOf m t) where
-  pub found_none : (id : Id) (r : Option (P × ℕ)) → r ≡ None → Found m st id r → where_is m id ≡ None
+  found_none : (id : Id) (r : Option (P × ℕ)) → r ≡ None → Found m st id r → where_is m id ≡ None
   found_none id None e f = not_there m id law (λ l i s. f l i s.0 s.1)
   found_none id (Some r) e f = let z : ◌≡◌ {A = ℕ} 0 1 = cc in absurd (omega arith)
 
@@ -27,6 +28,11 @@ module _ {P : Type 0} (m : Meaning) (st : P → Option Stretch) (law : Lawful m)
       let (u, f, g) = described_some m (st p) d desc in
       let same : u ≡ t = cc in
       ((t.list, t.from + k), where_at m id law t.list (t.from + k) (omega (arith, (settled p t e).within), q), record { covers = t; place = e; offset = h; index = refl; id = sym q; run = g ∙ ap (described m) same })
+
+  -- no run holds the id
+  pub look_lost : (id : Id) (o : Option (P × ℕ)) (r : Result (P × ℕ) Fault) (lost e : Fault) → Found m st id o → r ≡ ok_or o lost → r ≡ Err e → (where_is m id ≡ None) × (e ≡ lost)
+  look_lost id None r lost e f v q = (found_none id None refl f, cc)
+  look_lost id (Some x) r lost e f v q = absurd (let z : ◌≡◌ {A = ℕ} 0 1 = cc in omega arith)
 
   -- what is said of a run is said of each of its units
   pub said_at : (seat : Seat P) (at : ℕ × ℕ) → Sits m st seat at → (seat.run.redone ≡ (unit_at m at.0 at.1).redone) × (seat.run.live ≡ (unit_at m at.0 at.1).live) × (seat.run.kind ≡ (unit_at m at.0 at.1).kind) × (seat.run.list ≡ at.0)
@@ -64,10 +70,3 @@ module _ {P : Type 0} (m : Meaning) (st : P → Option Stretch) (law : Lawful m)
   pub turn_over : (seat : Seat P) (next : Id) → Looked m st seat.id (Ok seat) → seat.run.redone ≡ Some next → follow m 0 seat.id ≡ Err (refusal TooManyRedone (spots.Unit seat.id))
   unfolding follow
   turn_over seat next (at, w, s) e = ap (landing m _ seat.id) w ∙ ap (onto _ at) (sym (said_at seat at s).0 ∙ e)
-
-  -- the holder of a list
-  pub holder_lost : (l : ℕ) (o : Option Id) (id : Id) (e : Fault) → o ≡ m.holder l → o ≡ Some id → Looked m st id (Err e) → false ≡ upheld m l
-  holder_lost l o id e h q (w, _) = ap (live_at m) (sym w) ∙ ap (held_up m) (sym q ∙ h)
-
-  pub holder_there : (l : ℕ) (o : Option Id) (id : Id) (seat : Seat P) → o ≡ m.holder l → o ≡ Some id → Looked m st id (Ok seat) → seat.run.live ≡ upheld m l
-  holder_there l o id seat h q (at, w, s) = (said_at seat at s).1 ∙ ap (live_at m) (sym w) ∙ ap (held_up m) (sym q ∙ h)

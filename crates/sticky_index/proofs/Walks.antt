@@ -1,5 +1,5 @@
 -- A walk from the left of a list.
-use Rattle.std.proofs.Common.{◌≡◌, ℕ, suc, ◌+◌, ◌-◌, ◌^◌, ◌<◌, ◌≤◌, Bool, true, cond, ◌&&◌, length, get_or, Some, None, Option, sym, refl, ap, ◌∙◌, subst, inl, inr, arith}
+use Rattle.std.proofs.Common.{◌≡◌, ℕ, suc, ◌+◌, ◌-◌, ◌<◌, ◌≤◌, Bool, true, cond, ◌&&◌, length, get_or, Some, None, Option, sym, ap, ◌∙◌, subst, inl, inr, arith}
 use Rattle.std.proofs.lemmas.Bool.{cases_Bool, cond-true, cond-false}
 use Rattle.block.specs.declared.ids.Id.{Id}
 use Rattle.block.specs.Kinds.{is_counted}
@@ -19,28 +19,7 @@ id_at m t run k h =
 abbrev unit_id : Description → ℕ → Id
 unit_id d k = record { client = d.id.client; clock = d.id.clock + k }
 
-pub less_than_len : (d : Description) (left n : ℕ) → n ≡ cond (d.live && is_counted d.kind) d.len 0 → left < n → left < d.len
-less_than_len d left n e h =
-    elim (cases_Bool (d.live && is_counted d.kind)) [ inl v ↦ omega (arith, e ∙ cond-true _ _ _ v) | inr v ↦ absurd (omega (arith, e ∙ cond-false _ _ _ v)) ]
-
 module _ {P : Type 0} (m : Meaning) (st : P → Option Stretch) (law : Lawful m) (settled : (p : P) (t : Stretch) → st p ≡ Some t → RunOf m t) where
-  pub run_some : (p : P) (d : Description) → Described m (st p) (Some d) → 0 < d.len
-  run_some p d desc =
-      let (t, e, q) = described_some m (st p) d desc in
-      let len : d.len ≡ t.count = ap (λ (x : Description). x.len) q in
-      omega (arith, (settled p t e).some)
-
-  pub unit_fits : (p : P) (k : ℕ) (d : Description) → Described m (st p) (Some d) → k < d.len → d.id.clock + k < 2 ^ 32
-  unit_fits p k d desc h =
-      let (t, e, q) = described_some m (st p) d desc in
-      let run = settled p t e in
-      let lt : k < t.count = subst (λ (x : Description). k < x.len) q h in
-      let b = law.below t.list (t.from + k) (omega (arith, run.within)) in
-      let s = law.small (unit_at m t.list (t.from + k)).id.client in
-      let c = run.clock k lt in
-      let f : d.id.clock ≡ (unit_at m t.list t.from).id.clock = ap (λ (x : Description). x.id.clock) q in
-      omega arith
-
   -- the run at a place where a list goes on
   begun : (p : P) (d : Description) (l e : ℕ) → Begins st p l e → Described m (st p) (Some d) → (c : ℕ) × (st p ≡ Some (record { list = l; from = e; count = c })) × (d ≡ described m (record { list = l; from = e; count = c }))
   begun p d l e (c, q) desc =
@@ -62,17 +41,6 @@ module _ {P : Type 0} (m : Meaning) (st : P → Option Stretch) (law : Lawful m)
   abbrev pub to_go : Option P → ℕ
   to_go None = 0
   to_go (Some p) = ahead (st p)
-
-  on_near : (p : P) (t : Stretch) (r : Option P) → st p ≡ Some t → Onward m st t.list (t.from + t.count) r → to_go r < to_go (Some p)
-  on_near p t None e h = rw e (omega arith)
-  on_near p t (Some q) e (n, g) = rw (e, g) (omega (arith, (settled p t e).some, (settled p t e).within))
-
-  on_less_o : (p : P) (r : Option P) (o : Option Stretch) → st p ≡ o → Right m st p r → to_go r < to_go (Some p)
-  on_less_o p r None e h = rw (e, h.0 e) (omega arith)
-  on_less_o p r (Some t) e h = on_near p t r e (h.1 t e)
-
-  pub on_less : (p : P) (r : Option P) → Right m st p r → to_go r < to_go (Some p)
-  on_less p r h = on_less_o p r (st p) refl h
 
   -- the visible unit that the walk looks for is in this run
   pub on_unit : (p : P) (d : Description) (l e left k n : ℕ) (id : Id) → Begins st p l e → Described m (st p) (Some d) → count m l e + left ≡ k → n ≡ cond (d.live && is_counted d.kind) d.len 0 → left < n → id ≡ unit_id d left → (k < length (seen (m.units l))) × (id ≡ (get_or (seen (m.units l)) k no_unit).id)

@@ -11,8 +11,7 @@ use Rattle.reader.specs.Answers.{Onward, described}
 use Rattle.sticky_index.specs.declared.index.Assoc.{Assoc}
 use Rattle.sticky_index.specs.declared.index.Offset.{Offset}
 use Rattle.sticky_index.specs.declared.seat.Seat.{Seat}
-use Rattle.sticky_index.specs.declared.walk.Walk.{Walk}
-use Rattle.sticky_index.specs.declared.walk.Walk.TheVariants as walks
+use Rattle.sticky_index.specs.declared.walk.End.{End}
 use Rattle.sticky_index.specs.Marks.{refusal, stop, last_id, index_at, held_in}
 
 -- this seat is that of unit at .1 of list at .0
@@ -59,11 +58,11 @@ Indexed m st seat a r = (at : ℕ × ℕ) → Sits m st seat at → r ≡ stop a
 abbrev pub Holds : {P : Type 0} → Meaning → (P → Option Stretch) → Seat P → Option ℕ → Type 0
 Holds m st seat r = (at : ℕ × ℕ) → Sits m st seat at → r ≡ held_in (facet (unit_at m at.0 at.1))
 
--- where a walk to visible unit k of a list ends: at that unit, or past the list's end
-abbrev pub Ended : Meaning → ℕ → ℕ → Walk → Type 0
-Ended m l k (walks.Unit id) = (k < length (seen (m.units l))) × (id ≡ (slice_index_or (seen (m.units l)) k no_unit).id)
-Ended m l k (walks.End left last) = (length (seen (m.units l)) + left ≡ k) × (last ≡ last_id (m.units l) (length (m.units l)))
+-- what a walk to visible unit k of a list answers: that unit, or where it stopped past the list's end
+abbrev pub Ended : Meaning → ℕ → ℕ → Result Id End → Type 0
+Ended m l k (Ok id) = (k < length (seen (m.units l))) × (id ≡ (slice_index_or (seen (m.units l)) k no_unit).id)
+Ended m l k (Err end) = (length (seen (m.units l)) + end.left ≡ k) × (end.last ≡ last_id (m.units l) (length (m.units l)))
 
 -- the same of each list that begins at this place
-abbrev pub Walked : {P : Type 0} → Meaning → (P → Option Stretch) → Option P → ℕ → Walk → Type 0
+abbrev pub Walked : {P : Type 0} → Meaning → (P → Option Stretch) → Option P → ℕ → Result Id End → Type 0
 Walked m st start k r = (l : ℕ) → Onward m st l 0 start → Ended m l k r

@@ -14,43 +14,17 @@ fn is_upheld<R: Reader>(reader: &R, list: u32) -> bool
     ensures { result ≡ upheld (R.Reader.meaning reader.now) list }
 {
     match reader.holder(list) {
+        Ok(None) => true,
+        Ok(Some(id)) => look(reader, id).is_ok_and(|seat| seat.run.live),
         Err(_) => false,
-        Ok(holder) => match holder {
-            None => true,
-            Some(id) => match look(reader, id) {
-                Err(_) => false,
-                Ok(seat) => seat.run.live,
-            },
-        },
     }
-}
-
-// How many visible units are among the first `count` of a run.
-fn visible_among(run: Description, count: u32) -> u32
-    ensures { result ≡ (if run.live && is_counted run.kind then count else 0) }
-{
-    if run.live && run.kind.is_countable() {
-        count
-    } else {
-        0
-    }
-}
-
-// How many visible units a run has.
-pub(crate) fn visible_in(run: Description) -> u32
-    ensures { result ≡ (if run.live && is_counted run.kind then run.len else 0) }
-{
-    visible_among(run, run.len)
 }
 
 // How many visible units the run at a place has.
 fn visible_at<R: Reader>(reader: &R, place: R::Place) -> u32
     ensures { result ≡ run_adds (R.Reader.meaning reader.now) (R.Reader.stretch reader.now place) }
 {
-    match reader.describe(place) {
-        None => 0,
-        Some(run) => visible_in(run),
-    }
+    reader.describe(place).map_or(0, |run| run.visible_len())
 }
 
 // How many visible units stand left of the run at a place.
@@ -60,6 +34,7 @@ fn visible_before<R: Reader>(reader: &R, place: R::Place) -> u32
 {
     let mut n = 0;
     let mut at = reader.left(place);
+    // A loop: the walk ends since each run covers units, and `iter::successors` does not say so.
     while let Some(p) = at {
         n += visible_at(reader, p);
         at = reader.left(p);
@@ -67,12 +42,13 @@ fn visible_before<R: Reader>(reader: &R, place: R::Place) -> u32
     n
 }
 
-// How many units of its run stand left of a mark on the unit at an offset.
-fn reached(offset: u32, len: u32, assoc: Assoc) -> u32
-    requires { offset < len }
-    ensures { result ≡ reach assoc offset }
+// How many visible units of a run stand left of a mark on its unit at an offset.
+fn reached(run: Description, offset: u32, assoc: Assoc) -> u32
+    requires { offset < run.len }
+    ensures { result ≡ (if run.live && is_counted run.kind then reach assoc offset else 0) }
 {
     match assoc {
+        _ if !run.is_visible() => 0,
         Assoc::Before => offset + 1,
         Assoc::After => offset,
     }
@@ -92,7 +68,7 @@ pub(crate) fn index_at<R: Reader>(reader: &R, seat: Seat<R::Place>, assoc: Assoc
         };
     }
     let n = visible_before(reader, seat.place);
-    let here = visible_among(seat.run, reached(seat.offset, seat.run.len, assoc));
+    let here = reached(seat.run, seat.offset, assoc);
     Offset {
         list,
         index: n + here,

@@ -1,21 +1,11 @@
-ghost use Rattle.std.specs.Prelude.{◌≡◌};
-ghost use Rattle.sticky_index.specs.declared.index.Assoc.TheVariants.{After};
-
 use block::ids::Id;
 
 // The neighbour to which a mark between two units keeps: the one before it or the one after it.
-#[derive(Clone, Copy, PartialEq, Eq, Debug)]
+#[derive(Clone, Copy, PartialEq, Eq, Debug, Default)]
 pub enum Assoc {
     Before,
+    #[default]
     After,
-}
-
-impl Default for Assoc {
-    ghost is_default = { λ a. a ≡ After };
-
-    fn default() -> Assoc {
-        Assoc::After
-    }
 }
 
 // What a mark rests on: a unit, the list that a unit holds, or a root list.

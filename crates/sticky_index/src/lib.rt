@@ -3,7 +3,6 @@
 mod count;
 pub mod index;
 mod place;
-mod refuse;
 mod resolve;
 mod rest;
 mod seat;

@@ -4,9 +4,8 @@ ghost use Rattle.sticky_index.specs.Steps.{Leads, Seated, Holds};
 
 use crate::count::index_at;
 use crate::index::{Assoc, IndexScope, Offset, StickyIndex};
-use crate::refuse::refused;
 use crate::seat::{Seat, track};
-use block::fault::{Code, Fault, Spot};
+use block::fault::{Code, Fault, Part, Spot};
 use block::ids::Id;
 use block::kind::Kind;
 use block::slot::Value;
@@ -19,7 +18,7 @@ fn find_unit<R: Reader>(reader: &R, id: Id) -> Result<Seat<R::Place>, Fault>
     if id.clock < reader.known(id.client) {
         track(reader, id)
     } else {
-        Err(refused(Code::NotKnown, Spot::Unit(id)))
+        Err(Fault::new(Part::Mark, Code::NotKnown, Spot::Unit(id)))
     }
 }
 
@@ -48,17 +47,12 @@ fn held_list<R: Reader>(reader: &R, seat: Seat<R::Place>) -> Option<u32>
     requires { Seated (R.Reader.meaning reader.now) (R.Reader.stretch reader.now) seat }
     ensures { Holds (R.Reader.meaning reader.now) (R.Reader.stretch reader.now) seat result }
 {
-    match seat.run.kind {
-        Kind::List => match reader.value(seat.place, seat.offset) {
-            None => None,
-            Some(slot) => match reader.show(slot) {
-                None => None,
-                Some(value) => match value {
-                    Value::List(list) => Some(list),
-                    _ => None,
-                },
-            },
-        },
+    if seat.run.kind != Kind::List {
+        return None;
+    }
+    let slot = reader.value(seat.place, seat.offset)?;
+    match reader.show(slot)? {
+        Value::List(list) => Some(list),
         _ => None,
     }
 }
@@ -68,10 +62,12 @@ fn nested_offset<R: Reader>(reader: &R, id: Id, assoc: Assoc) -> Result<Offset, 
     ensures { result ≡ nested_stop (R.Reader.layers reader.now) (R.Reader.meaning reader.now) assoc (found (R.Reader.meaning reader.now) id) }
 {
     let seat = find_unit(reader, id)?;
-    match held_list(reader, seat) {
-        None => Err(refused(Code::NotListed, Spot::Unit(seat.id))),
-        Some(list) => list_offset(reader, list, assoc),
-    }
+    let list = held_list(reader, seat).ok_or(Fault::new(
+        Part::Mark,
+        Code::NotListed,
+        Spot::Unit(seat.id),
+    ))?;
+    list_offset(reader, list, assoc)
 }
 
 // Where a mark on a root stands.
@@ -80,7 +76,7 @@ fn root_offset<R: Reader>(reader: &R, list: u32, assoc: Assoc) -> Result<Offset,
 {
     match reader.holder(list)? {
         None => list_offset(reader, list, assoc),
-        Some(_) => Err(refused(Code::NoSuchList, Spot::List(list))),
+        Some(_) => Err(Fault::new(Part::Mark, Code::NoSuchList, Spot::List(list))),
     }
 }
 

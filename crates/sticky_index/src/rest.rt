@@ -4,9 +4,8 @@ ghost use Rattle.sticky_index.specs.declared.index.Assoc.TheVariants.{Before, Af
 ghost use Rattle.sticky_index.specs.declared.index.IndexScope.TheVariants.{Relative};
 
 use crate::index::{Assoc, IndexScope, StickyIndex};
-use crate::refuse::refused;
-use crate::walk::{Walk, walk_to};
-use block::fault::{Code, Fault, Spot};
+use crate::walk::{End, walk_to};
+use block::fault::{Code, Fault, Part, Spot};
 use block::ids::Id;
 use reader::reader::Reader;
 
@@ -15,10 +14,10 @@ fn after<R: Reader>(reader: &R, list: u32, index: u32) -> Result<StickyIndex, Fa
     ensures { result ≡ rest_of (R.Reader.layers reader.now) (R.Reader.meaning reader.now) list index After }
 {
     let start = reader.first(list)?;
-    match walk_to(reader, start, index) {
-        Walk::Unit(id) => Ok(StickyIndex::from_id(id, Assoc::After)),
-        Walk::End { .. } => Err(refused(Code::BeyondLength, Spot::List(list))),
-    }
+    let Ok(id) = walk_to(reader, start, index) else {
+        return Err(Fault::new(Part::Mark, Code::BeyondLength, Spot::List(list)));
+    };
+    Ok(StickyIndex::from_id(id, Assoc::After))
 }
 
 // The mark at `index + 1` that keeps to the unit before it.
@@ -27,16 +26,14 @@ fn before<R: Reader>(reader: &R, list: u32, index: u32) -> Result<StickyIndex, F
 {
     let start = reader.first(list)?;
     match walk_to(reader, start, index) {
-        Walk::Unit(id) => Ok(StickyIndex::from_id(id, Assoc::Before)),
-        Walk::End { left, last } => {
-            if left > 0 {
-                return Err(refused(Code::BeyondLength, Spot::List(list)));
-            }
-            match last {
-                None => StickyIndex::from_type(reader, list, Assoc::Before),
-                Some(id) => Ok(StickyIndex::from_id(id, Assoc::Before)),
-            }
-        }
+        Ok(id) => Ok(StickyIndex::from_id(id, Assoc::Before)),
+        Err(End { left, .. }) if left > 0 => Err(Fault::new(
+            Part::Mark,
+            Code::BeyondLength,
+            Spot::List(list),
+        )),
+        Err(End { last: Some(id), .. }) => Ok(StickyIndex::from_id(id, Assoc::Before)),
+        Err(End { last: None, .. }) => StickyIndex::from_type(reader, list, Assoc::Before),
     }
 }
 
@@ -55,10 +52,9 @@ impl StickyIndex {
     pub fn from_type<R: Reader>(reader: &R, list: u32, assoc: Assoc) -> Result<StickyIndex, Fault>
         ensures { result ≡ list_mark (R.Reader.layers reader.now) (R.Reader.meaning reader.now) list assoc }
     {
-        let scope = match reader.holder(list)? {
-            None => IndexScope::Root(list),
-            Some(id) => IndexScope::Nested(id),
-        };
+        let scope = reader
+            .holder(list)?
+            .map_or(IndexScope::Root(list), IndexScope::Nested);
         Ok(StickyIndex { scope, assoc })
     }
 
@@ -75,11 +71,8 @@ impl StickyIndex {
     {
         match assoc {
             Assoc::After => after(reader, list, index),
-            Assoc::Before => if index == 0 {
-                StickyIndex::from_type(reader, list, Assoc::Before)
-            } else {
-                before(reader, list, index - 1)
-            },
+            Assoc::Before if index == 0 => StickyIndex::from_type(reader, list, Assoc::Before),
+            Assoc::Before => before(reader, list, index - 1),
         }
     }
 

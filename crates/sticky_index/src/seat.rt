@@ -1,8 +1,7 @@
 ghost use Rattle.sticky_index.specs.Marks.{follow};
 ghost use Rattle.sticky_index.specs.Steps.{Looked, Leads};
 
-use crate::refuse::refused;
-use block::fault::{Code, Fault, Spot};
+use block::fault::{Code, Fault, Part, Spot};
 use block::ids::Id;
 use reader::reader::{Description, Reader};
 
@@ -20,18 +19,15 @@ pub(crate) struct Seat<P> {
 pub(crate) fn look<R: Reader>(reader: &R, id: Id) -> Result<Seat<R::Place>, Fault>
     ensures { Looked (R.Reader.meaning reader.now) (R.Reader.stretch reader.now) id result }
 {
-    match reader.find(id) {
-        None => Err(refused(Code::NotListed, Spot::Unit(id))),
-        Some((place, offset)) => match reader.describe(place) {
-            None => Err(refused(Code::NotListed, Spot::Unit(id))),
-            Some(run) => Ok(Seat {
-                id,
-                place,
-                offset,
-                run,
-            }),
-        },
-    }
+    let lost = Fault::new(Part::Mark, Code::NotListed, Spot::Unit(id));
+    let (place, offset) = reader.find(id).ok_or(lost)?;
+    let run = reader.describe(place).ok_or(lost)?;
+    Ok(Seat {
+        id,
+        place,
+        offset,
+        run,
+    })
 }
 
 // Looks up an id, and while the unit found has a successor, that one instead. A 65th successor is not
@@ -40,14 +36,15 @@ pub(crate) fn track<R: Reader>(reader: &R, id: Id) -> Result<Seat<R::Place>, Fau
     ensures { Leads (R.Reader.meaning reader.now) (R.Reader.stretch reader.now) (follow (R.Reader.meaning reader.now) 64 id) result }
 {
     let mut seat = look(reader, id)?;
+    // So many turns at most; no index.
     for i in 0..64u32 {
-        match seat.run.redone {
-            None => return Ok(seat),
-            Some(next) => seat = look(reader, next)?,
-        }
+        let Some(next) = seat.run.redone else {
+            return Ok(seat);
+        };
+        seat = look(reader, next)?;
     }
     match seat.run.redone {
         None => Ok(seat),
-        Some(_) => Err(refused(Code::TooManyRedone, Spot::Unit(seat.id))),
+        Some(_) => Err(Fault::new(Part::Mark, Code::TooManyRedone, Spot::Unit(seat.id))),
     }
 }

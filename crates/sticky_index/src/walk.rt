@@ -1,16 +1,15 @@
 ghost use Rattle.std.specs.Prelude.{◌≡◌, ◌+◌, ◌^◌, ◌<◌};
 ghost use Rattle.sticky_index.specs.Steps.{Walked};
 
-use crate::count::visible_in;
 use block::ids::Id;
 use reader::reader::{Description, Reader};
 
-// Where a walk from the left ended: at a visible unit, or past the last run, with how many visible
-// units were still to pass, and the id of the list's last unit, dead or not.
+// Where a walk from the left stopped past the last run: how many visible units were still to pass,
+// and the id of the list's last unit, dead or not.
 #[derive(Clone, Copy)]
-pub(crate) enum Walk {
-    Unit(Id),
-    End { left: u32, last: Option<Id> },
+pub(crate) struct End {
+    pub(crate) left: u32,
+    pub(crate) last: Option<Id>,
 }
 
 // The id of the unit at an offset of a run.
@@ -19,29 +18,30 @@ fn unit_of(run: Description, offset: u32) -> Id
     ensures { result ≡ record { client = run.id.client; clock = run.id.clock + offset } }
 {
     Id {
-        client: run.id.client,
         clock: run.id.clock + offset,
+        ..run.id
     }
 }
 
 // Walks from the leftmost run of a list to visible unit `index`.
-pub(crate) fn walk_to<R: Reader>(reader: &R, start: Option<R::Place>, index: u32) -> Walk
+pub(crate) fn walk_to<R: Reader>(reader: &R, start: Option<R::Place>, index: u32) -> Result<Id, End>
     ensures { Walked (R.Reader.meaning reader.now) (R.Reader.stretch reader.now) start index result }
 {
     let mut at = start;
     let mut left = index;
     let mut last = None;
+    // A loop: the walk ends since each run covers units, and `iter::successors` does not say so.
     while let Some(p) = at {
         let Some(run) = reader.describe(p) else {
-            return Walk::End { left, last };
+            return Err(End { left, last });
         };
-        let n = visible_in(run);
+        let n = run.visible_len();
         if left < n {
-            return Walk::Unit(unit_of(run, left));
+            return Ok(unit_of(run, left));
         }
         left -= n;
         last = Some(unit_of(run, run.len - 1));
         at = reader.right(p);
     }
-    Walk::End { left, last }
+    Err(End { left, last })
 }

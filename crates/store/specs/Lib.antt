@@ -2,6 +2,7 @@ pub mod Kinds
 pub mod Records
 pub mod First
 pub mod FirstFacts
+pub mod FirstLists
 pub mod Refusals
 pub mod Limits
 pub mod Ranges

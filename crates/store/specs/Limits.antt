@@ -18,11 +18,11 @@ count_fits count room limit = nat_le count room && nat_le count limit
 
 -- each count is within its table and its limit
 abbrev pub is_counted : Tables → Bool
-is_counted t = count_fits t.run_count (length t.runs.now) 4096 && (count_fits t.list_count (length t.lists.now) 256 && (count_fits t.client_count (length t.clients.now) 64 && (count_fits t.entry_count (length t.entries.now) 8192 && count_fits t.byte_count (length t.bytes.now) 65536)))
+is_counted t = count_fits t.runs.count (length t.runs.records.now) 4096 && (count_fits t.lists.count (length t.lists.records.now) 256 && (count_fits t.clients.count (length t.clients.records.now) 64 && (count_fits t.entries.count (length t.entries.records.now) 8192 && count_fits t.bytes.count (length t.bytes.records.now) 65536)))
 
 -- the records in use
 abbrev pub used : Tables → Store
-used t = record { runs = take t.run_count t.runs.now; lists = take t.list_count t.lists.now; clients = take t.client_count t.clients.now; entries = take t.entry_count t.entries.now; bytes = take t.byte_count t.bytes.now }
+used t = record { runs = take t.runs.count t.runs.records.now; lists = take t.lists.count t.lists.records.now; clients = take t.clients.count t.clients.records.now; entries = take t.entries.count t.entries.records.now; bytes = take t.bytes.count t.bytes.records.now }
 
 -- the records in use are lent, or a count is out of range
 abbrev pub Lent : Tables → Result View Fault → Type 0

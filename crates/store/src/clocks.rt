@@ -18,23 +18,15 @@ fn is_clear(a: RunRecord, b: RunRecord) -> bool
     a.id.client != b.id.client || end_of(a) <= b.id.clock as u64 || end_of(b) <= a.id.clock as u64
 }
 
-fn is_clear_at(view: &View<'_>, i: usize, j: usize) -> bool
-    requires { (i < length (held view.now).runs) × (j < length (held view.now).runs) }
-    ensures { result ≡ is_clear_at (held view.now) i j }
-{
-    i == j || is_clear(view.runs[i], view.runs[j])
-}
-
+// Whether run i shares no unit with any other.
 fn is_clear_of_all(view: &View<'_>, i: usize) -> bool
-    requires { i < length (held view.now).runs }
     ensures { result ≡ all_pass (is_clear_at (held view.now) i) (length (held view.now).runs) }
 {
-    for j in 0..view.runs.len() {
-        if !is_clear_at(view, i, j) {
-            return false;
-        }
-    }
-    true
+    let run = view.run(i);
+    view.runs
+        .iter()
+        .enumerate()
+        .all(|(j, other)| i == j || is_clear(run, *other))
 }
 
 fn comes_after(a: RunRecord, b: RunRecord) -> bool
@@ -43,33 +35,23 @@ fn comes_after(a: RunRecord, b: RunRecord) -> bool
     a.id.client == b.id.client && end_of(b) == a.id.clock as u64
 }
 
+// Whether run i begins where some run ends.
 fn comes_after_some(view: &View<'_>, i: usize) -> bool
-    requires { i < length (held view.now).runs }
     ensures { result ≡ some_pass (comes_after_at (held view.now) i) (length (held view.now).runs) }
 {
-    for j in 0..view.runs.len() {
-        if comes_after(view.runs[i], view.runs[j]) {
-            return true;
-        }
-    }
-    false
+    let run = view.run(i);
+    view.runs.iter().any(|other| comes_after(run, *other))
 }
 
 fn run_follows(view: &View<'_>, i: usize) -> bool
-    requires { i < length (held view.now).runs }
     ensures { result ≡ run_follows_at (held view.now) i }
 {
-    is_clear_of_all(view, i) && (view.runs[i].id.clock == 0 || comes_after_some(view, i))
+    is_clear_of_all(view, i) && (view.run(i).id.clock == 0 || comes_after_some(view, i))
 }
 
 // The first run that overlaps another of its client, or begins at neither 0 nor another's end.
 pub fn first_overlap(view: &View<'_>) -> Option<usize>
     ensures { result ≡ first_bad (run_follows_at (held view.now)) (length (held view.now).runs) }
 {
-    for i in 0..view.runs.len() {
-        if !run_follows(view, i) {
-            return Some(i);
-        }
-    }
-    None
+    (0..view.runs.len()).find(|&i| !run_follows(view, i))
 }

@@ -7,22 +7,11 @@ use block::kind::Kind;
 pub fn kind_of(number: u8) -> Kind
     ensures { result ≡ kind_of number }
 {
-    match number {
-        0 => Kind::Gc,
-        1 => Kind::Deleted,
-        2 => Kind::Json,
-        3 => Kind::Binary,
-        4 => Kind::Text,
-        5 => Kind::Embed,
-        6 => Kind::Format,
-        7 => Kind::List,
-        8 => Kind::Any,
-        9 => Kind::Doc,
-        _ => Kind::Skip,
-    }
+    Kind::try_from(number).unwrap_or(Kind::Skip)
 }
 
-// Whether runs of this kind belong to no list.
+// Whether runs of this kind belong to no list. Here and below all kinds are written out, and not by
+// `matches!`, so that a new kind has to be placed.
 pub fn stands_apart(kind: Kind) -> bool
     ensures { result ≡ stands_apart kind }
 {

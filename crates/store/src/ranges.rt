@@ -13,19 +13,13 @@ const LAST_CLOCK: u32 = 0x7FFF_FFFF;
 fn in_use(at: Option<u32>, count: usize) -> bool
     ensures { result ≡ in_use at count }
 {
-    match at {
-        None => true,
-        Some(i) => (i as usize) < count,
-    }
+    at.is_none_or(|i| (i as usize) < count)
 }
 
 fn id_fits(id: Option<Id>) -> bool
     ensures { result ≡ id_fits id }
 {
-    match id {
-        None => true,
-        Some(id) => is_client(id.client),
-    }
+    id.is_none_or(|id| is_client(id.client))
 }
 
 fn numbers_fit(run: RunRecord) -> bool
@@ -87,12 +81,7 @@ fn run_fits(view: &View<'_>, run: RunRecord) -> bool
 pub fn first_run(view: &View<'_>) -> Option<usize>
     ensures { result ≡ first_bad (run_fits_at (held view.now)) (length (held view.now).runs) }
 {
-    for (i, run) in view.runs.iter().enumerate() {
-        if !run_fits(view, *run) {
-            return Some(i);
-        }
-    }
-    None
+    view.runs.iter().position(|run| !run_fits(view, *run))
 }
 
 fn list_fits(view: &View<'_>, list: ListRecord) -> bool
@@ -105,12 +94,7 @@ fn list_fits(view: &View<'_>, list: ListRecord) -> bool
 pub fn first_list(view: &View<'_>) -> Option<usize>
     ensures { result ≡ first_bad (list_fits_at (held view.now)) (length (held view.now).lists) }
 {
-    for (l, list) in view.lists.iter().enumerate() {
-        if !list_fits(view, *list) {
-            return Some(l);
-        }
-    }
-    None
+    view.lists.iter().position(|list| !list_fits(view, *list))
 }
 
 // Whether no earlier record has the client of this one.
@@ -118,12 +102,10 @@ fn is_new(view: &View<'_>, i: usize) -> bool
     requires { i < length (held view.now).clients }
     ensures { result ≡ all_pass (other_client (held view.now) i) i }
 {
-    for j in 0..i {
-        if view.clients[j].client == view.clients[i].client {
-            return false;
-        }
-    }
-    true
+    let client = view.clients[i].client;
+    view.clients[..i]
+        .iter()
+        .all(|earlier| earlier.client != client)
 }
 
 fn client_fits(view: &View<'_>, i: usize) -> bool
@@ -137,12 +119,7 @@ fn client_fits(view: &View<'_>, i: usize) -> bool
 pub fn first_client(view: &View<'_>) -> Option<usize>
     ensures { result ≡ first_bad (client_fits_at (held view.now)) (length (held view.now).clients) }
 {
-    for i in 0..view.clients.len() {
-        if !client_fits(view, i) {
-            return Some(i);
-        }
-    }
-    None
+    (0..view.clients.len()).find(|&i| !client_fits(view, i))
 }
 
 fn entry_is_inside(view: &View<'_>, entry: EntryRecord) -> bool
@@ -155,10 +132,7 @@ fn entry_is_inside(view: &View<'_>, entry: EntryRecord) -> bool
 pub fn first_entry(view: &View<'_>) -> Option<usize>
     ensures { result ≡ first_bad (entry_fits_at (held view.now)) (length (held view.now).entries) }
 {
-    for (e, entry) in view.entries.iter().enumerate() {
-        if !entry_is_inside(view, *entry) {
-            return Some(e);
-        }
-    }
-    None
+    view.entries
+        .iter()
+        .position(|entry| !entry_is_inside(view, *entry))
 }

@@ -4,7 +4,7 @@ ghost use Rattle.store.specs.Records.{held, run_at, list_at, entry_at, bytes_of}
 use block::ids::Id;
 
 // A run of units, as the store keeps it. Runs, lists and entries are named by their numbers.
-#[derive(Clone, Copy)]
+#[derive(Clone, Copy, Debug, Default, PartialEq, Eq)]
 pub struct RunRecord {
     pub id: Id,
     pub len: u32,
@@ -21,7 +21,7 @@ pub struct RunRecord {
 }
 
 // A list: its leftmost run, the unit that holds it (none: a root), and how many visible units it has.
-#[derive(Clone, Copy)]
+#[derive(Clone, Copy, Debug, Default, PartialEq, Eq)]
 pub struct ListRecord {
     pub start: Option<u32>,
     pub holder: Option<Id>,
@@ -29,14 +29,14 @@ pub struct ListRecord {
 }
 
 // A client, with the clock up to which its units are known.
-#[derive(Clone, Copy)]
+#[derive(Clone, Copy, Debug, Default, PartialEq, Eq)]
 pub struct ClientRecord {
     pub client: u64,
     pub known: u32,
 }
 
 // An entry of the content: its first byte, and how many bytes it has.
-#[derive(Clone, Copy)]
+#[derive(Clone, Copy, Debug, Default, PartialEq, Eq)]
 pub struct EntryRecord {
     pub start: u32,
     pub len: u32,
@@ -52,75 +52,33 @@ pub struct View<'a> {
     pub bytes: &'a [u8],
 }
 
-const NO_RUN: RunRecord = RunRecord {
-    id: Id {
-        client: 0,
-        clock: 0,
-    },
-    len: 0,
-    kind: 0,
-    live: false,
-    list: None,
-    left: None,
-    right: None,
-    redone: None,
-    entry: 0,
-};
-
-const NO_LIST: ListRecord = ListRecord {
-    start: None,
-    holder: None,
-    len: 0,
-};
-
-const NO_ENTRY: EntryRecord = EntryRecord { start: 0, len: 0 };
-
 impl<'a> View<'a> {
     // The run with this number; past those in use, one with no units and no list.
     pub fn run(&self, i: usize) -> RunRecord
         ensures { result ≡ run_at (held self.now) i }
     {
-        if i < self.runs.len() {
-            self.runs[i]
-        } else {
-            NO_RUN
-        }
+        self.runs.get(i).copied().unwrap_or_default()
     }
 
     // The list with this number; past those in use, an empty root.
     pub fn list(&self, l: usize) -> ListRecord
         ensures { result ≡ list_at (held self.now) l }
     {
-        if l < self.lists.len() {
-            self.lists[l]
-        } else {
-            NO_LIST
-        }
+        self.lists.get(l).copied().unwrap_or_default()
     }
 
     // The entry with this number; past those in use, one with no bytes.
     pub fn entry(&self, e: usize) -> EntryRecord
         ensures { result ≡ entry_at (held self.now) e }
     {
-        if e < self.entries.len() {
-            self.entries[e]
-        } else {
-            NO_ENTRY
-        }
+        self.entries.get(e).copied().unwrap_or_default()
     }
 
     // The bytes of an entry, as far as there are such bytes.
     pub fn bytes_of(&self, entry: EntryRecord) -> &'a [u8]
         ensures { result.now ≡ bytes_of (held self.now) entry }
     {
-        let start = entry.start as usize;
-        let end = start + entry.len as usize;
-        if end <= self.bytes.len() {
-            return &self.bytes[start..end];
-        }
-        if start < self.bytes.len() {
-            return &self.bytes[start..];
-        }
-        &[]
+        let rest = self.bytes.get(entry.start as usize..).unwrap_or(&[]);
+        rest.get(..entry.len as usize).unwrap_or(rest)
     }
 }

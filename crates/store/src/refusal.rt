@@ -7,10 +7,5 @@ use block::fault::{Code, Fault, Part, Spot};
 pub fn fault_at(code: Code, spot: Spot) -> Fault
     ensures { result ≡ fault_at code spot }
 {
-    Fault {
-        code,
-        part: Part::Tables,
-        spot,
-        clips: 0,
-    }
+    Fault::new(Part::Tables, code, spot)
 }

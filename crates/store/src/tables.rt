@@ -1,5 +1,8 @@
-ghost use Rattle.std.specs.Prelude.{◌≡◌, ℕ};
-ghost use Rattle.store.specs.Limits.{counts_fit, count_fits, is_counted, Lent};
+ghost use Rattle.std.specs.Prelude.{◌≡◌, true, false, length, take, MatchResult};
+ghost use Rattle.block.specs.declared.fault.Code.TheVariants.{OutOfRange};
+ghost use Rattle.block.specs.declared.fault.Spot.TheVariants.{Nowhere};
+ghost use Rattle.store.specs.Limits.{counts_fit, count_fits, Lent};
+ghost use Rattle.store.specs.Refusals.{fault_at};
 ghost use Rattle.store.specs.Records.{held};
 
 use crate::records::{ClientRecord, EntryRecord, ListRecord, RunRecord, View};
@@ -27,51 +30,45 @@ pub fn counts_fit(view: &View<'_>) -> bool
         && view.bytes.len() <= BYTES
 }
 
-// Tables with room, and how many records of each, and bytes, are in use.
-pub struct Tables<'a> {
-    pub runs: &'a mut [RunRecord],
-    pub lists: &'a mut [ListRecord],
-    pub clients: &'a mut [ClientRecord],
-    pub entries: &'a mut [EntryRecord],
-    pub bytes: &'a mut [u8],
-    pub run_count: u32,
-    pub list_count: u32,
-    pub client_count: u32,
-    pub entry_count: u32,
-    pub byte_count: u32,
+// A table with room for its records, and how many of them are in use.
+pub struct Table<'a, T> {
+    pub records: &'a mut [T],
+    pub count: u32,
 }
 
-fn count_fits(count: u32, room: usize, limit: usize) -> bool
-    ensures { result ≡ count_fits count room limit }
-{
-    count as usize <= room && count as usize <= limit
+impl<'a, T> Table<'a, T> {
+    // The records in use; refused where the count is past the table or the limit.
+    pub fn in_use(&self, limit: usize) -> Result<&[T], Fault>
+        ensures { MatchResult result (λ xs. (count_fits self.now.count (length self.now.records.now) limit ≡ true) × (xs.now ≡ take self.now.count self.now.records.now)) (λ f. (count_fits self.now.count (length self.now.records.now) limit ≡ false) × (f ≡ fault_at OutOfRange Nowhere)) }
+    {
+        let count = self.count as usize;
+        if count > self.records.len() || count > limit {
+            return Err(fault_at(Code::OutOfRange, Spot::Nowhere));
+        }
+        Ok(&self.records[..count])
+    }
+}
+
+// The tables of a document.
+pub struct Tables<'a> {
+    pub runs: Table<'a, RunRecord>,
+    pub lists: Table<'a, ListRecord>,
+    pub clients: Table<'a, ClientRecord>,
+    pub entries: Table<'a, EntryRecord>,
+    pub bytes: Table<'a, u8>,
 }
 
 impl<'a> Tables<'a> {
-    // Whether each count in use is within its table and its limit.
-    pub fn is_counted(&self) -> bool
-        ensures { result ≡ is_counted self.now }
-    {
-        count_fits(self.run_count, self.runs.len(), RUNS)
-            && count_fits(self.list_count, self.lists.len(), LISTS)
-            && count_fits(self.client_count, self.clients.len(), CLIENTS)
-            && count_fits(self.entry_count, self.entries.len(), ENTRIES)
-            && count_fits(self.byte_count, self.bytes.len(), BYTES)
-    }
-
     // The records in use; refused where a count is past its table or its limit.
     pub fn view(&self) -> Result<View<'_>, Fault>
         ensures { Lent self.now result }
     {
-        if !self.is_counted() {
-            return Err(fault_at(Code::OutOfRange, Spot::Nowhere));
-        }
         Ok(View {
-            runs: &self.runs[..self.run_count as usize],
-            lists: &self.lists[..self.list_count as usize],
-            clients: &self.clients[..self.client_count as usize],
-            entries: &self.entries[..self.entry_count as usize],
-            bytes: &self.bytes[..self.byte_count as usize],
+            runs: self.runs.in_use(RUNS)?,
+            lists: self.lists.in_use(LISTS)?,
+            clients: self.clients.in_use(CLIENTS)?,
+            entries: self.entries.in_use(ENTRIES)?,
+            bytes: self.bytes.in_use(BYTES)?,
         })
     }
 }

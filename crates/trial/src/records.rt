@@ -14,13 +14,11 @@ pub(crate) fn run(
     RunRecord {
         id: Id { client, clock },
         len,
-        kind: kind.number(),
+        kind: u8::from(kind),
         live: true,
         list: Some(list),
-        left: None,
-        right: None,
-        redone: None,
         entry,
+        ..RunRecord::default()
     }
 }
 
@@ -35,7 +33,7 @@ pub(crate) fn dead(run: RunRecord) -> RunRecord {
 pub(crate) fn root(start: Option<u32>, len: u32) -> ListRecord {
     ListRecord {
         start,
-        holder: None,
         len,
+        ..ListRecord::default()
     }
 }

@@ -37,25 +37,15 @@ const ENTRIES: [EntryRecord; 3] = [
 
 const BYTES: [u8; 5] = [97, 98, 88, 89, 99];
 
-fn fault_of<'a>(
-    runs: &'a [RunRecord],
-    lists: &'a [ListRecord],
-    clients: &'a [ClientRecord],
-    entries: &'a [EntryRecord],
-    bytes: &'a [u8],
-) -> Option<Fault> {
-    let view = View {
-        runs,
-        lists,
-        clients,
-        entries,
-        bytes,
-    };
-    verdict(&view)
-}
-
 fn small(runs: &[RunRecord], list: ListRecord) -> Option<Fault> {
-    fault_of(runs, &[list], &CLIENTS, &ENTRIES, &BYTES)
+    verdict(&View {
+        runs,
+        lists: &[list],
+        clients: &CLIENTS,
+        entries: &ENTRIES,
+        bytes: &BYTES,
+    })
+    .err()
 }
 
 #[test]
@@ -102,42 +92,16 @@ fn damage_is_told_by_record(rt: HostRuntime) {
     );
 }
 
-// The slot of a unit, and how many values its run has from there on, up to three.
-fn value_at<'a>(
-    runs: &'a [RunRecord],
-    lists: &'a [ListRecord],
-    clients: &'a [ClientRecord],
-    entries: &'a [EntryRecord],
-    bytes: &'a [u8],
-    place: u32,
-    offset: u32,
-) -> Option<(usize, Slot)> {
-    let view = View {
-        runs,
-        lists,
-        clients,
-        entries,
-        bytes,
-    };
-    match Document::examine(&view) {
-        Ok(document) => {
-            let mut slots = [Slot::Empty; 3];
-            let count = document.read(place, offset, &mut slots);
-            Some((count, slots[0]))
-        }
-        Err(_) => None,
-    }
-}
-
-// Three characters of two, three and one bytes, and a list that holds two JSON values.
+// Three characters of two, three and one bytes, and a list that holds two JSON values: the slot of a
+// unit, and how many values its run has from there on, up to three.
 fn mixed(place: u32, offset: u32) -> Option<(usize, Slot)> {
-    value_at(
-        &[
+    let view = View {
+        runs: &[
             linked(run(Kind::Text, 1, 0, 3, 0, 0), None, Some(1)),
             linked(run(Kind::List, 1, 3, 1, 0, 3), Some(0), None),
             run(Kind::Json, 1, 4, 2, 1, 1),
         ],
-        &[
+        lists: &[
             root(Some(0), 4),
             ListRecord {
                 start: Some(2),
@@ -148,19 +112,21 @@ fn mixed(place: u32, offset: u32) -> Option<(usize, Slot)> {
                 len: 2,
             },
         ],
-        &[ClientRecord {
+        clients: &[ClientRecord {
             client: 1,
             known: 6,
         }],
-        &[
+        entries: &[
             EntryRecord { start: 0, len: 6 },
             EntryRecord { start: 6, len: 1 },
             EntryRecord { start: 7, len: 2 },
         ],
-        &[0xC3, 0xA9, 0xE2, 0x89, 0xA2, 0x61, 0x31, 0x32, 0x33],
-        place,
-        offset,
-    )
+        bytes: &[0xC3, 0xA9, 0xE2, 0x89, 0xA2, 0x61, 0x31, 0x32, 0x33],
+    };
+    let document = Document::examine(&view).ok()?;
+    let mut slots = [Slot::Empty; 3];
+    let count = document.read(place, offset, &mut slots);
+    Some((count, slots[0]))
 }
 
 fn content(kind: Kind, start: u32, len: u32) -> Slot {

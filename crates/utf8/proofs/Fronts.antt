@@ -1,7 +1,8 @@
 -- One character at the front of some bytes.
-use Rattle.std.proofs.Common.{◌≡◌, ℕ, ◌+◌, ◌<◌, ◌≤◌, min, cond, List, ◌∷◌, length, get_or, drop, Some, None, Ok, Err, Result, sym, ap, ◌∙◌, add-zero, add-one, arith}
-use Rattle.std.proofs.lemmas.List.{at_drop_more, at_drop_all}
-use Rattle.utf8.specs.declared.byte_range.ByteRange.{ByteRange}
+use Rattle.std.proofs.Common.{◌≡◌, ℕ, ◌+◌, ◌-◌, ◌<◌, ◌≤◌, ◌≢◌, suc, min, Bool, true, false, cond, List, [], ◌∷◌, zip, length, get_or, take, drop, take_while, Some, None, Ok, Err, Result, sym, refl, ap, ◌∙◌, add-zero, arith}
+use Rattle.std.proofs.lemmas.List.{at_drop_more, at_drop_all, take_all, length-drop}
+use Rattle.std.proofs.lemmas.List.Folds.{length-prefix_len}
+use Rattle.std.specs.List.{prefix_len}
 use Rattle.utf8.specs.Table.{Row, within}
 use Rattle.utf8.specs.Rows.{rest_of}
 use Rattle.utf8.specs.Reading.{follow, follow_row, front, placed, character_at}
@@ -23,25 +24,50 @@ pub front_at : (rows : List Row) (bs : List ℕ) (p : ℕ) → p < length bs →
 unfolding front
 front_at rows bs p h = at_drop_more (front rows) bs p 0 h
 
-no_row : ByteRange
-no_row = record { low = 0; high = 0 }
+-- how many bytes, from the first on, lie in the ranges at their places
+abbrev pub fit : Row → List ℕ → ℕ
+fit row bs = prefix_len (λ x. within x.0 x.1) (zip row bs)
 
--- one more byte of the character
-pub follow_more : (row : Row) (bs : List ℕ) (i n p : ℕ) (d : ByteRange) → i < length row → p < length bs →
-    follow (drop i row) n (drop p bs) ≡ cond (within (get_or row i d) (get_or bs p 0)) (follow (drop (i + 1) row) (n + 1) (drop (p + 1) bs)) (Err n)
-follow_more row bs i n p d h k =
-    at_drop_more (λ r. follow r n (drop p bs)) row i d h
-    ∙ at_drop_more (λ b. follow (get_or row i d ∷ drop (i + 1) row) n b) bs p 0 k
-    ∙ ap (λ m. cond (within (get_or row i d) (get_or bs p 0)) (follow (drop (i + 1) row) m (drop (p + 1) bs)) (Err n)) (sym (add-one n))
+pub fit_inside : (row : Row) (bs : List ℕ) → fit row bs ≤ length bs
+fit_inside [] bs = omega arith
+fit_inside (r ∷ row) [] = omega arith
+fit_inside (r ∷ row) (b ∷ bs) = inside_by (fit row bs) (length bs) (within r b) (fit_inside row bs)
+  where
+    inside_by : (k n : ℕ) (v : Bool) → k ≤ n → cond v (1 + k) 0 ≤ suc n
+    inside_by k n true h = omega arith
+    inside_by k n false h = omega arith
 
-pub follow_cut : (row : Row) (bs : List ℕ) (i n p : ℕ) → i < length row → length bs ≤ p → follow (drop i row) n (drop p bs) ≡ Err n
-unfolding no_row
-follow_cut row bs i n p h k =
-    at_drop_more (λ r. follow r n (drop p bs)) row i no_row h
-    ∙ at_drop_all (λ b. follow (get_or row i no_row ∷ drop (i + 1) row) n b) bs p k
+-- as `fitting` counts them, in the bytes from p on
+pub fitting_is : (row : Row) (bs : List ℕ) (p k : ℕ) → k ≡ length (take_while (λ x. within x.0 x.1) (zip row (take (length bs - p) (drop p bs)))) → k ≡ fit row (drop p bs)
+fitting_is row bs p k e =
+    let rest : take (length bs - p) (drop p bs) ≡ drop p bs = take_all (length bs - p) (drop p bs) (let many = length-drop p bs in omega arith) in
+    e ∙ length-prefix_len (λ x. within x.0 x.1) (zip row (take (length bs - p) (drop p bs))) ∙ ap (fit row) rest
 
-pub follow_all : (row : Row) (bs : List ℕ) (i n : ℕ) → length row ≤ i → follow (drop i row) n bs ≡ Ok n
-follow_all row bs i n h = at_drop_all (λ r. follow r n bs) row i h
+-- each byte of the character lies in its range
+pub follow_all : (row : Row) (bs : List ℕ) (n : ℕ) → fit row bs ≡ length row → follow row n bs ≡ Ok (n + length row)
+follow_all [] bs n h = ap Ok (sym (add-zero n))
+follow_all (r ∷ row) [] n h = absurd (omega arith)
+follow_all (r ∷ row) (b ∷ bs) n h = all_by (within r b) (follow_all row bs (suc n)) h
+  where
+    all_by : (v : Bool) → (fit row bs ≡ length row → follow row (suc n) bs ≡ Ok (suc n + length row)) → cond v (1 + fit row bs) 0 ≡ suc (length row) →
+        cond v (follow row (suc n) bs) (Err n) ≡ Ok (n + suc (length row))
+    all_by true ih e =
+        let shift : suc n + length row ≡ n + suc (length row) = omega arith in
+        ih (omega arith) ∙ ap Ok shift
+    all_by false ih e = absurd (omega arith)
+
+-- the first that does not, or that is missing
+pub follow_stop : (row : Row) (bs : List ℕ) (n : ℕ) → fit row bs ≢ length row → follow row n bs ≡ Err (n + fit row bs)
+follow_stop [] bs n h = absurd (h refl)
+follow_stop (r ∷ row) [] n h = ap Err (sym (add-zero n))
+follow_stop (r ∷ row) (b ∷ bs) n h = stop_by (within r b) (follow_stop row bs (suc n)) h
+  where
+    stop_by : (v : Bool) → (fit row bs ≢ length row → follow row (suc n) bs ≡ Err (suc n + fit row bs)) → cond v (1 + fit row bs) 0 ≢ suc (length row) →
+        cond v (follow row (suc n) bs) (Err n) ≡ Err (n + cond v (1 + fit row bs) 0)
+    stop_by true ih e =
+        let shift : suc n + fit row bs ≡ n + (1 + fit row bs) = omega arith in
+        ih (λ same. e (omega arith)) ∙ ap Err shift
+    stop_by false ih e = ap Err (sym (add-zero n))
 
 pub no_character : (rows : List Row) (bs : List ℕ) (p : ℕ) → p < length bs → None ≡ rest_of rows (get_or bs p 0) → Err p ≡ character_at rows bs p
 no_character rows bs p h e =

@@ -1,5 +1,5 @@
 -- How many bytes the characters of a row have.
-use Rattle.std.proofs.Common.{◌≡◌, ℕ, suc, ◌+◌, ◌≤◌, Bool, true, false, ◌&&◌, ◌||◌, leb, List, [], ◌∷◌, ◌++◌, length, Some, None, Option, sym, refl, ap, ◌∙◌, subst, arith}
+use Rattle.std.proofs.Common.{◌≡◌, ℕ, suc, ◌≤◌, Bool, true, false, ◌&&◌, ◌||◌, leb, List, [], ◌∷◌, ◌++◌, length, Some, None, Option, sym, refl, ap, ◌∙◌, subst, arith}
 use Rattle.std.proofs.lemmas.Bool.{false≢true, and_parts, leb-true, le-leb, lt-leb}
 use Rattle.std.specs.Option.{option_map}
 use Rattle.utf8.specs.declared.planes.Planes.TheVariants.{All}
@@ -24,14 +24,6 @@ begun_row b (Some row) e = (
 
 pub begun : (b : ℕ) (r : Option ℕ) → r ≡ length_from utf8_char b → Begun b r
 begun b r e = subst (Begun b) (sym e) (begun_row b (rest_of utf8_char b) refl)
-
-pub length_some : (b : ℕ) (row : Row) → Some row ≡ rest_of utf8_char b → Some (1 + length row) ≡ length_from utf8_char b
-length_some b row e =
-    let one : 1 + length row ≡ suc (length row) = omega arith in
-    ap Some one ∙ ap (option_map (λ r. suc (length r))) e
-
-pub length_none : (b : ℕ) → None ≡ rest_of utf8_char b → None ≡ length_from utf8_char b
-length_none b e = ap (option_map (λ (r : Row). suc (length r))) e
 
 -- each row has at most, or at least, n bytes
 abbrev at_most : ℕ → List Row → Bool

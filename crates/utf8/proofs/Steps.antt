@@ -1,6 +1,7 @@
 -- What the loops over a text keep, and what they answer.
 use Rattle.std.proofs.Common.{◌≡◌, ℕ, ◌+◌, ◌-◌, ◌<◌, ◌≤◌, List, [], ◌∷◌, ◌++◌, length, take, drop, Some, None, Ok, Err, Result, sym, refl, ap, ◌∙◌, subst, arith}
 use Rattle.std.proofs.lemmas.List.{length-drop, length_push, take_all}
+use Rattle.std.specs.Result.{result_ok}
 use Rattle.utf8.specs.declared.planes.Planes.{Planes}
 use Rattle.utf8.specs.Table.{Row}
 use Rattle.utf8.specs.Rows.{rows}
@@ -17,6 +18,15 @@ placed_ok m n (Err k) e = let z : ◌≡◌ {A = ℕ} 0 1 = cc in absurd (omega 
 placed_err : (m p : ℕ) (r : Result ℕ ℕ) → Err p ≡ placed m r → (q : ℕ) × (p ≡ m + q) × (r ≡ Err q)
 placed_err m p (Ok k) e = let z : ◌≡◌ {A = ℕ} 0 1 = cc in absurd (omega arith)
 placed_err m p (Err k) e = let same : p ≡ m + k = cc in (k, same, refl)
+
+-- what `ok()` keeps of an answer
+pub kept_ok : (r : Result ℕ ℕ) (n : ℕ) → Some n ≡ result_ok r → r ≡ Ok n
+kept_ok (Ok k) n e = let same : k ≡ n = cc in ap Ok same
+kept_ok (Err k) n e = let z : ◌≡◌ {A = ℕ} 0 1 = cc in absurd (omega arith)
+
+pub kept_none : (r : Result ℕ ℕ) → None ≡ result_ok r → (m : ℕ) × (r ≡ Err m)
+kept_none (Ok k) e = let z : ◌≡◌ {A = ℕ} 0 1 = cc in absurd (omega arith)
+kept_none (Err k) e = (k, refl)
 
 -- `count` characters spell the bytes before `at`
 pub record Sofar (t : List Row) (bs : List ℕ) (at count : ℕ) : Type 0 where

@@ -67,8 +67,5 @@ pub fn length(first: u8) -> Option<usize>
     ensures value { result ≡ length_from utf8_char first }
     ensures means { Begun first result }
 {
-    match rest(first) {
-        Some(ranges) => Some(1 + ranges.len()),
-        None => None,
-    }
+    rest(first).map(|ranges| 1 + ranges.len())
 }

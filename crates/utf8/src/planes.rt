@@ -1,5 +1,5 @@
 // Which characters a text may have: all, or only those up to U+FFFF.
-#[derive(Clone, Copy)]
+#[derive(Clone, Copy, PartialEq, Eq, Debug)]
 pub enum Planes {
     All,
     Basic,

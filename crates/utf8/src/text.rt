@@ -18,9 +18,9 @@ fn count_in(planes: Planes, text: &[u8]) -> Result<usize, usize>
 {
     let mut count = 0;
     let mut at = 0;
+    // Each character says how far the next one is, so no range of offsets is gone over.
     while at < text.len() {
-        let length = measure(planes, text, at)?;
-        at += length;
+        at += measure(planes, text, at)?;
         count += 1;
     }
     Ok(count)
@@ -57,13 +57,8 @@ pub fn locate(text: &[u8], index: usize) -> Option<(usize, usize)>
 {
     let mut at = 0;
     for _ in 0..index {
-        match measure(Planes::All, text, at) {
-            Ok(length) => at += length,
-            Err(_) => return None,
-        }
+        at += measure(Planes::All, text, at).ok()?;
     }
-    match measure(Planes::All, text, at) {
-        Ok(length) => Some((at, length)),
-        Err(_) => None,
-    }
+    let length = measure(Planes::All, text, at).ok()?;
+    Some((at, length))
 }

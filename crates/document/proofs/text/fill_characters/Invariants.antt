@@ -1,5 +1,5 @@
 use Rattle.document.proofs.Walked.{Walked}
 use Rattle.document.proofs.text.fill_characters.Given as goal
 
-abbrev pub invariant-loop-k : goal.invariant-loop-k
-invariant-loop-k l = Walked l.text l.start l.from l.n l.k l.at l.initial.slots l.slots
+abbrev pub invariant-loop-slot : goal.invariant-loop-slot
+invariant-loop-slot l = Walked l.text l.start l.from l.n l.slot-index l.at l.initial.slot-items l.slot-items

@@ -1,9 +1,7 @@
+use Rattle.std.proofs.Common.{rules}
 use Rattle.utf8.specs.Table.{utf8_char}
-use Rattle.document.proofs.Texts.{place_found, place_missing}
+use Rattle.document.proofs.Texts.{place_given}
 use Rattle.document.proofs.text.place_of.Goals as goal
 
-pub returns-in-Some : goal.returns-in-Some
-returns-in-Some c = λ _. place_found utf8_char c.args.text.now c.args.index (c.in-Some.at, c.in-Some._len) c.in-Some.ensures.value
-
-pub returns-in-None : goal.returns-in-None
-returns-in-None c = λ lt. absurd (place_missing utf8_char c.args.text.now c.args.index c.in-None.ensures.value lt)
+pub returns : goal.returns
+returns c = place_given utf8_char c.args.text.now c.args.index c.locate.result c.map_or.result c.locate.ensures.value c.map_or.ensures (λ at g. search rules)

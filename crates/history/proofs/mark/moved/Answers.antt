@@ -1,11 +1,16 @@
+use Rattle.std.proofs.Common.{ap, ◌∙◌}
+use Rattle.sticky_index.specs.Marks.{offset_of}
 use Rattle.history.proofs.Ageing.{units_last}
 use Rattle.history.proofs.Theorem.{pile_moves}
 use Rattle.history.proofs.mark.moved.Goals as goal
 
 pub returns : goal.returns
 returns g c =
+    let layers = g.R.Reader.layers c.args.reader.now in
+    let m = g.R.Reader.meaning c.args.reader.now in
+    let resolves = c.get_offset.ensures ∙ ap (offset_of layers m) c.from_id.ensures in
     record {
-      resolves = c.get_offset.ensures;
-      moves = λ o limits e. pile_moves (g.R.Reader.layers c.args.reader.now) (g.R.Reader.meaning c.args.reader.now) o limits c.args.id c.args.assoc _ e c.get_offset.ensures;
+      resolves = resolves;
+      moves = λ o limits e. pile_moves layers m o limits c.args.id c.args.assoc _ e resolves;
       lasts = units_last;
     }

@@ -1,22 +1,16 @@
-use Rattle.std.proofs.Common.{◌+◌, List, map, take, Option, sym, ap, ◌∙◌, subst}
-use Rattle.std.proofs.lemmas.List.{take_all}
+use Rattle.std.proofs.Common.{◌∷◌, map, List, Some, sym, ap, ◌∙◌, rules}
+use Rattle.std.proofs.lemmas.Fn.{fold_over, slice_gives, fronts}
 use Rattle.clip.specs.declared.pairs.Pairs.{Pairs}
 use Rattle.clip.specs.Made.{limit_of}
+use Rattle.clip.specs.Joined.{Joined}
 use Rattle.history.specs.Piles.{under}
-use Rattle.history.proofs.Clips.{ShowsPile, pile_first, pile_next}
+use Rattle.history.proofs.Clips.{ShowsPile, pile_first, pile_more}
 use Rattle.history.proofs.pile.join_all.Goals as goal
-use Rattle.history.proofs.pile.join_all.Goals.{in-None, in-Some}
-
-pub loop-c-preserved : goal.loop-c-preserved
-loop-c-preserved c =
-    let cs = c.args.clips.now in
-    let i = c.loop-c.c-index in
-    let was = λ (all : Option Pairs). ShowsPile all (map limit_of (take i cs)) in
-    let is = λ (all : Option Pairs). ShowsPile all (map limit_of (take (i + 1) cs)) in
-    elim c.match-all.branch [
-      | in-None w ↦ subst is (sym w.all-is) (pile_first cs i c.c-item.result c.loop-c-test.true c.c-item.is (subst was w.in-None.is c.loop-c.invariant))
-      | in-Some w ↦ subst is (sym w.all-is) (pile_next cs i c.c-item.result c.loop-c-test.true c.c-item.is w.in-Some.top w.join.result w.join.ensures.joined (subst was w.in-Some.is c.loop-c.invariant))
-    ]
 
 pub returns : goal.returns
-returns c m = c.loop-c.invariant m ∙ ap (λ (ps : List Pairs). under (map limit_of ps) m) (take_all c.loop-c.c-index c.args.clips.now c.loop-c-test.false)
+returns c m =
+    let first : Pairs = c.in_ok-first.first.now in
+    let shows = fold_over fronts (λ x. x.now) _ (λ (xs : List Pairs) (all : Pairs). ShowsPile (Some all) (map limit_of (first ∷ xs))) _
+    (λ xs all x both f h k. let j : Joined all x.now both = search rules in (pile_more (first ∷ xs) all x.now both j h, search rules))
+    c.iter.result _ first c.fold.result (slice_gives c.iter.result) (pile_first first) c.fold.ensures.ran in
+    shows m ∙ ap (λ (cs : List Pairs). under (map limit_of cs) m) (ap (λ (xs : List Pairs). first ∷ xs) c.iter.ensures.rest ∙ sym c.in_ok-first.ensures.cases.0)

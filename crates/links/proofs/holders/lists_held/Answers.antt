@@ -1,19 +1,14 @@
-use Rattle.std.proofs.Common.{sym, arith}
-use Rattle.store.specs.FirstFacts.{passing_zero, passing_yes, passing_no, passing_end}
-use Rattle.store.specs.Records.{held}
-use Rattle.links.specs.Links.{held_by_at}
+use Rattle.std.proofs.Common.{rules, tests}
+use Rattle.std.proofs.lemmas.Iterator.{YieldsList-from_slice}
+use Rattle.std.proofs.lemmas.Iterator.Consumers.{YieldsList-from_filter}
+use Rattle.store.specs.declared.records.ListRecord.{ListRecord}
+use Rattle.store.specs.FirstLists.{passing_count}
+use Rattle.store.specs.Records.{held, no_list}
+use Rattle.links.specs.Links.{is_id}
 use Rattle.links.proofs.holders.lists_held.Goals as goal
-use Rattle.links.proofs.holders.lists_held.Goals.{then-is_id, else-is_id}
-
-pub loop-list-init : goal.loop-list-init
-loop-list-init c = (sym (passing_zero _), omega arith)
-
-pub loop-list-preserved : goal.loop-list-preserved
-loop-list-preserved c =
-    elim c.if-is_id.branch [
-      | then-is_id w ↦ (let e = passing_yes (held_by_at (held c.args.view.now) c.args.id) c.loop-list.list-index (sym w.if-is_id.ensures) in let f = c.loop-list.invariant.0 in let g = w.count-is in (omega (arith, e, f, g), omega (arith, g)))
-      | else-is_id w ↦ (let e = passing_no (held_by_at (held c.args.view.now) c.args.id) c.loop-list.list-index (sym w.if-is_id.ensures) in let f = c.loop-list.invariant.0 in let g = w.count-is in (omega (arith, e, f, g), omega (arith, g)))
-    ]
 
 pub returns : goal.returns
-returns c = passing_end (held_by_at (held c.args.view.now) c.args.id) _ c.loop-list.list-index c.loop-list.count c.loop-list.invariant.0 c.loop-list.auto.list-index-end c.loop-list-test.false
+returns c =
+    let s = held c.args.view.now in
+    passing_count (λ (l : ListRecord). is_id l.holder c.args.id) no_list s.lists c.filter.result _ c.count.ensures.ran
+    (YieldsList-from_filter _ _ (YieldsList-from_slice s.lists (cc)) c.filter.ensures.closure (λ x b q k. search (rules, tests)))

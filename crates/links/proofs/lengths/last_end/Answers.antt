@@ -1,17 +1,19 @@
-use Rattle.std.proofs.Common.{ℕ, sym, ap, ◌∙◌}
-use Rattle.store.specs.Records.{held, run_at}
-use Rattle.links.specs.Lengths.{later}
-use Rattle.links.proofs.Sums.{last_none, last_more, last_all}
+use Rattle.std.proofs.Common.{rules, tests, ◌==◌, ◌∙◌}
+use Rattle.std.proofs.lemmas.Iterator.{YieldsList-from_slice, YieldsList-from_map}
+use Rattle.std.proofs.lemmas.Iterator.Consumers.{YieldsList-from_filter, YieldsList-at, max_from_yields_List}
+use Rattle.store.specs.declared.records.RunRecord.{RunRecord}
+use Rattle.store.specs.Clocks.{end_of}
+use Rattle.store.specs.Records.{held}
+use Rattle.links.proofs.Sums.{last_max}
 use Rattle.links.proofs.lengths.last_end.Goals as goal
 
-pub loop-run-init : goal.loop-run-init
-loop-run-init c = sym (last_none (held c.args.view.now) c.args.client)
-
-pub loop-run-preserved : goal.loop-run-preserved
-loop-run-preserved c =
-    c.later-last.ensures
-    ∙ ap (λ (k : ℕ). later c.args.client k (run_at (held c.args.view.now) c.loop-run.run-index)) c.loop-run.invariant
-    ∙ sym (last_more (held c.args.view.now) c.args.client c.loop-run.run-index)
-
 pub returns : goal.returns
-returns c = last_all (held c.args.view.now) c.args.client c.loop-run.last c.loop-run.run-index _ c.loop-run.invariant c.loop-run.auto.run-index-end c.loop-run-test.false
+returns c =
+    let s = held c.args.view.now in
+    c.unwrap_or.ensures
+    ∙ last_max s c.args.client _
+    (max_from_yields_List c.map.result _ c.max.ensures.ran
+    (YieldsList-from_map _ end_of
+    (YieldsList-at c.map.ensures.source
+    (YieldsList-from_filter _ (λ (r : RunRecord). r.id.client == c.args.client) (YieldsList-from_slice s.runs (cc)) c.filter.ensures.closure (λ x b q k. search (rules, tests))))
+    c.map.ensures.closure (λ x r q k. search (rules, tests))))

@@ -1,18 +1,13 @@
-use Rattle.std.proofs.Common.{ℕ, cond, ◌&&◌, sym, ap, ◌∙◌, arith}
-use Rattle.block.specs.Kinds.{is_counted}
+use Rattle.std.proofs.Common.{sym, ◌∙◌, arith}
 use Rattle.sticky_index.proofs.Counts.{index_fits, index_here}
 use Rattle.sticky_index.proofs.count.index_at.Goals as goal
 
 pub overflow_add-result : goal.overflow_add-result
 overflow_add-result g c =
     let s = c.args.reader.now in
-    let run = c.args.seat.run in
-    let here = c.visible_among-here.ensures ∙ ap (λ (k : ℕ). cond (run.live && is_counted run.kind) k 0) c.reached.ensures in
-    omega (arith, index_fits _ _ (g.R.Reader.lawful s) (g.R.Reader.settled s) c.args.seat c.args.assoc _ _ c.visible_before-n.ensures here c.requires)
+    omega (arith, index_fits _ _ (g.R.Reader.lawful s) (g.R.Reader.settled s) c.args.seat c.args.assoc _ _ c.visible_before-n.ensures c.reached-here.ensures c.requires)
 
 pub returns : goal.returns
 returns g c =
     let s = c.args.reader.now in
-    let run = c.args.seat.run in
-    let here = c.visible_among-here.ensures ∙ ap (λ (k : ℕ). cond (run.live && is_counted run.kind) k 0) c.reached.ensures in
-    index_here _ _ (g.R.Reader.lawful s) (g.R.Reader.settled s) c.args.seat c.args.assoc _ _ c.visible_before-n.ensures here (sym c.is_upheld.ensures ∙ c.if-not-is_upheld.false)
+    index_here _ _ (g.R.Reader.lawful s) (g.R.Reader.settled s) c.args.seat c.args.assoc _ _ c.visible_before-n.ensures c.reached-here.ensures (sym c.is_upheld.ensures ∙ c.if-not-is_upheld.false)

@@ -1,6 +1,6 @@
-use Rattle.std.proofs.Common.{◌≡◌, ◌+◌, ◌<◌, sym, ap, ◌∙◌, subst, arith}
+use Rattle.std.proofs.Common.{◌≡◌, ◌+◌, ap, ◌∙◌, subst, arith}
 use Rattle.reader.specs.Answers.{Backward}
-use Rattle.sticky_index.proofs.Counts.{count, count_fits, back_less, back_step, back_fits, to_start}
+use Rattle.sticky_index.proofs.Counts.{count, count_fits, back_step, back_fits}
 use Rattle.sticky_index.proofs.count.visible_before.Goals as goal
 
 pub loop-at-init : goal.loop-at-init
@@ -20,12 +20,6 @@ overflow_add-n g c =
     let fits = count_fits m law t.list t.from (omega (arith, run.within)) in
     let few = law.few t.list in
     omega (arith, c.visible_at-n.ensures, w)
-
-pub loop-at-smaller : goal.loop-at-smaller
-loop-at-smaller g c =
-    let s = c.args.reader.now in
-    subst (λ x. to_start _ _ (g.R.Reader.settled s) c.left-at-in-Some.result < to_start _ _ (g.R.Reader.settled s) x) (sym c.in-Some.is)
-    (back_less _ _ (g.R.Reader.settled s) c.in-Some.p c.left-at-in-Some.result c.left-at-in-Some.ensures)
 
 pub loop-at-preserved : goal.loop-at-preserved
 loop-at-preserved g c k f b0 =

@@ -1,17 +1,11 @@
-use Rattle.std.proofs.Common.{sym}
-use Rattle.store.specs.FirstFacts.{none_zero, none_more, none_end, found}
-use Rattle.store.specs.Records.{held}
-use Rattle.store.specs.Ranges.{list_fits_at}
+use Rattle.std.proofs.Common.{rules, tests}
+use Rattle.std.proofs.lemmas.Iterator.{YieldsList-from_slice}
+use Rattle.store.specs.FirstLists.{first_position}
+use Rattle.store.specs.Records.{held, no_list}
+use Rattle.store.specs.Ranges.{list_fits}
 use Rattle.store.proofs.ranges.first_list.Goals as goal
 
-pub loop-l-init : goal.loop-l-init
-loop-l-init c = none_zero _
-
-pub returns-then-not-list_fits : goal.returns-then-not-list_fits
-returns-then-not-list_fits c = sym (found (list_fits_at (held c.args.view.now)) _ c.loop-l.l c.loop-l.invariant (sym c.if-not-list_fits.ensures) c.loop-l-test.true)
-
-pub loop-l-preserved : goal.loop-l-preserved
-loop-l-preserved c = none_more (list_fits_at (held c.args.view.now)) c.loop-l.l c.loop-l.invariant (sym c.if-not-list_fits.ensures)
-
 pub returns : goal.returns
-returns c = sym (none_end (list_fits_at (held c.args.view.now)) _ c.loop-l.l c.loop-l.invariant c.loop-l.auto.l-end c.loop-l-test.false)
+returns c =
+    let s = held c.args.view.now in
+    first_position (list_fits s) no_list s.lists _ _ _ c.position.ensures.ran (YieldsList-from_slice _ (cc)) (λ x b q k. search (rules, tests))

@@ -1,36 +1,40 @@
-use Rattle.std.proofs.Common.{◌≡◌, ◌+◌, drop, sym, ap, ◌∙◌, arith}
-use Rattle.std.proofs.lemmas.Bool.{cond-true, cond-false}
-use Rattle.utf8.specs.Rows.{rows}
-use Rattle.utf8.specs.Reading.{follow}
-use Rattle.utf8.proofs.Fronts.{nothing, no_character, found, follow_more, follow_cut, follow_all}
+use Rattle.std.proofs.Common.{◌≡◌, ◌+◌, drop, Ok, Err, sym, ap, ◌∙◌, length-drop, arith}
+use Rattle.utf8.specs.Rows.{rest_of, rows}
+use Rattle.utf8.proofs.Fronts.{nothing, no_character, found, fit_inside, fitting_is, follow_all, follow_stop}
 use Rattle.utf8.proofs.character.measure.Goals as goal
 
-pub returns-then-at-text : goal.returns-then-at-text
-returns-then-at-text c = nothing (rows c.args.planes) _ _ c.if-at-text.true
-
 pub returns-in_default : goal.returns-in_default
-returns-in_default c = no_character (rows c.args.planes) _ _ c.if-at-text.false c.in_default.ensures
+returns-in_default c = nothing (rows c.args.planes) _ _ c.in_default.ensures.lookup.3
 
-pub returns-then-place-text : goal.returns-then-place-text
-returns-then-place-text c =
-    found (rows c.args.planes) _ _ _ _ c.if-at-text.false c.in-Some.ensures
-    (sym c.loop-range.invariant.2 ∙ follow_cut _ _ _ _ _ c.loop-range-test.true c.if-place-text.true)
+pub returns-in_default-rest_in : goal.returns-in_default-rest_in
+returns-in_default-rest_in c =
+    let (inside, first) = c.in-Some.ensures.lookup.3 in
+    no_character (rows c.args.planes) _ _ inside (c.in_default-rest_in.ensures ∙ ap (rest_of (rows c.args.planes)) (first 0))
 
-pub returns-then-not-has : goal.returns-then-not-has
-returns-then-not-has c =
-    found (rows c.args.planes) _ _ _ _ c.if-at-text.false c.in-Some.ensures
-    (sym c.loop-range.invariant.2 ∙ follow_more _ _ _ _ _ _ c.loop-range-test.true c.if-place-text.false
-    ∙ cond-false _ _ _ (sym c.has.ensures ∙ c.if-not-has.true))
+pub overflow_add-result-else-fit-rest-2 : goal.overflow_add-result-else-fit-rest-2
+overflow_add-result-else-fit-rest-2 c =
+    let row = c.in-Some-rest_in.rest.now in
+    omega (
+      arith,
+      c.in-Some.ensures.lookup.3.0,
+      fitting_is row c.args.text.now (c.args.at + 1) c.fitting-fit.result c.fitting-fit.ensures,
+      fit_inside row (drop (c.args.at + 1) c.args.text.now),
+      length-drop (c.args.at + 1) c.args.text.now,
+    )
 
-pub loop-range-preserved : goal.loop-range-preserved
-loop-range-preserved c =
-    let next : c.args.at + (c.loop-range.length + 1) ≡ c.args.at + c.loop-range.length + 1 = omega arith in
-    let shift = ap (λ p. follow (drop (c.loop-range.range-index + 1) c.in-Some.rest.now) (c.loop-range.length + 1) (drop p c.args.text.now)) next in
-    let step = follow_more _ _ _ _ _ _ c.loop-range-test.true c.if-place-text.false
-    ∙ cond-true _ _ _ (sym c.has.ensures ∙ c.if-not-has.false) in
-    (omega arith, omega arith, shift ∙ sym step ∙ c.loop-range.invariant.2)
+pub returns-then-fit-rest : goal.returns-then-fit-rest
+returns-then-fit-rest c =
+    let (inside, first) = c.in-Some.ensures.lookup.3 in
+    let row = c.in-Some-rest_in.rest.now in
+    let is = fitting_is row c.args.text.now (c.args.at + 1) c.fitting-fit.result c.fitting-fit.ensures in
+    let all = follow_all row (drop (c.args.at + 1) c.args.text.now) 1 (sym is ∙ c.if-fit-rest.true) in
+    found (rows c.args.planes) c.args.text.now c.args.at row _ inside (c.in-Some-rest_in.ensures ∙ ap (rest_of (rows c.args.planes)) (first 0)) (all ∙ ap (λ n. Ok (1 + n)) (sym c.if-fit-rest.true))
 
-pub returns : goal.returns
-returns c =
-    found (rows c.args.planes) _ _ _ _ c.if-at-text.false c.in-Some.ensures
-    (sym c.loop-range.invariant.2 ∙ follow_all _ _ _ _ c.loop-range-test.false)
+pub returns-else-fit-rest : goal.returns-else-fit-rest
+returns-else-fit-rest c =
+    let (inside, first) = c.in-Some.ensures.lookup.3 in
+    let row = c.in-Some-rest_in.rest.now in
+    let is = fitting_is row c.args.text.now (c.args.at + 1) c.fitting-fit.result c.fitting-fit.ensures in
+    let stop = follow_stop row (drop (c.args.at + 1) c.args.text.now) 1 (λ same. c.if-fit-rest.false (is ∙ same)) in
+    let place : c.args.at + 1 + c.fitting-fit.result ≡ c.args.at + (1 + c.fitting-fit.result) = omega arith in
+    ap Err place ∙ found (rows c.args.planes) c.args.text.now c.args.at row (Err (1 + c.fitting-fit.result)) inside (c.in-Some-rest_in.ensures ∙ ap (rest_of (rows c.args.planes)) (first 0)) (stop ∙ ap (λ n. Err (1 + n)) (sym is))

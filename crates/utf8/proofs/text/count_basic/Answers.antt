@@ -2,12 +2,8 @@ use Rattle.utf8.proofs.Encodings.{basic_encodings}
 use Rattle.utf8.proofs.Lengths.{short}
 use Rattle.utf8.proofs.text.count_basic.Goals as goal
 
-pub returns : goal.returns
-returns c = record {
-  value = c.count_in.ensures.value;
-  means = c.count_in.ensures.means;
-  unique = c.count_in.ensures.unique;
-  sums = c.count_in.ensures.sums;
-  short = short;
-  encodings = basic_encodings;
-}
+pub returns-clause-short : goal.returns-clause-short
+returns-clause-short c = short
+
+pub returns-clause-encodings : goal.returns-clause-encodings
+returns-clause-encodings c = basic_encodings

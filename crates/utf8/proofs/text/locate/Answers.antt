@@ -1,32 +1,41 @@
-use Rattle.std.proofs.Common.{arith}
+use Rattle.std.proofs.Common.{sym, ◌∙◌, subst, arith}
 use Rattle.utf8.specs.declared.planes.Planes.TheVariants.{All}
 use Rattle.utf8.specs.Table.{utf8_char}
-use Rattle.utf8.proofs.Steps.{none_yet, ends, one_more, found_value, found_means, none_value, none_means}
+use Rattle.utf8.specs.Texts.{Located}
+use Rattle.utf8.proofs.Steps.{kept_ok, kept_none, ends, one_more, found_value, found_means, none_value, none_means}
 use Rattle.utf8.proofs.text.locate.Goals as goal
 
-pub loop-init : goal.loop-init
-loop-init c = none_yet utf8_char c.args.text.now
-
 pub overflow_add-at : goal.overflow_add-at
-overflow_add-at c = omega (arith, ends All c.args.text.now c.loop.at _ c.in-Ok.ensures)
-
-pub returns-in-Err : goal.returns-in-Err
-returns-in-Err c = record {
-  value = none_value All c.args.text.now c.loop.at _ c.loop.counter c.args.index c.loop.invariant c.in-Err.ensures (omega arith);
-  means = none_means All c.args.text.now c.loop.at _ c.loop.counter c.args.index c.loop.invariant c.in-Err.ensures (omega arith);
-}
+overflow_add-at c =
+    let is = kept_ok c.measure.result c.in_ok-at.field-0 c.in_ok-at.ensures.value in
+    omega (arith, ends All c.args.text.now c.loop.at _ (sym is ∙ c.measure.ensures))
 
 pub loop-preserved : goal.loop-preserved
-loop-preserved c = one_more All c.args.text.now c.loop.at _ c.loop.counter c.loop.invariant c.in-Ok.ensures
+loop-preserved c =
+    let is = kept_ok c.measure.result c.in_ok-at.field-0 c.in_ok-at.ensures.value in
+    one_more All c.args.text.now c.loop.at _ c.loop.counter c.loop.invariant (sym is ∙ c.measure.ensures)
 
-pub returns-in-Ok-measure : goal.returns-in-Ok-measure
-returns-in-Ok-measure c = record {
-  value = found_value All c.args.text.now c.loop.at _ c.loop.counter c.args.index c.loop.invariant c.in-Ok-measure.ensures (omega arith);
-  means = found_means All c.args.text.now c.loop.at _ c.loop.counter c.args.index c.loop.invariant c.in-Ok-measure.ensures (omega arith);
-}
+pub returns-in_err-at : goal.returns-in_err-at
+returns-in_err-at c =
+    let (place, is) = kept_none c.measure.result c.in_err-at.ensures.value in
+    let wrong = sym is ∙ c.measure.ensures in
+    let none = c.from_residual.ensures in record {
+      value = none ∙ none_value All c.args.text.now c.loop.at place c.loop.counter c.args.index c.loop.invariant wrong (omega arith);
+      means = subst (Located utf8_char c.args.text.now c.args.index) (sym none) (none_means All c.args.text.now c.loop.at place c.loop.counter c.args.index c.loop.invariant wrong (omega arith));
+    }
 
-pub returns-in-Err-measure : goal.returns-in-Err-measure
-returns-in-Err-measure c = record {
-  value = none_value All c.args.text.now c.loop.at _ c.loop.counter c.args.index c.loop.invariant c.in-Err-measure.ensures (omega arith);
-  means = none_means All c.args.text.now c.loop.at _ c.loop.counter c.args.index c.loop.invariant c.in-Err-measure.ensures (omega arith);
-}
+pub returns-in_err-length : goal.returns-in_err-length
+returns-in_err-length c =
+    let (place, is) = kept_none c.measure-2.result c.in_err-length.ensures.value in
+    let wrong = sym is ∙ c.measure-2.ensures in
+    let none = c.from_residual-in_err-length.ensures in record {
+      value = none ∙ none_value All c.args.text.now c.loop.at place c.loop.counter c.args.index c.loop.invariant wrong (omega arith);
+      means = subst (Located utf8_char c.args.text.now c.args.index) (sym none) (none_means All c.args.text.now c.loop.at place c.loop.counter c.args.index c.loop.invariant wrong (omega arith));
+    }
+
+pub returns : goal.returns
+returns c =
+    let is = sym (kept_ok c.measure-2.result c.in_ok-length.length c.in_ok-length.ensures.value) ∙ c.measure-2.ensures in record {
+      value = found_value All c.args.text.now c.loop.at _ c.loop.counter c.args.index c.loop.invariant is (omega arith);
+      means = found_means All c.args.text.now c.loop.at _ c.loop.counter c.args.index c.loop.invariant is (omega arith);
+    }

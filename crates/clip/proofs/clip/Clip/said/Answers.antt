@@ -10,7 +10,7 @@ returns g c =
     let s = c.args.self.now in
     let m = g.R.Reader.meaning s.below in
     let limit = limit_of s.pairs in
-    let d = c.in-Some.d in
-    let len : min d.len (limit d.id.client - d.id.clock) ≡ c.min-len.result = ap (λ x. min d.len (x - d.id.clock)) (sym c.limit-limit.ensures) ∙ sym c.min-len.ensures in
-    subst (λ n. Described (clipped limit m) (cut limit m (g.R.Reader.stretch s.below c.args.place)) (Some (record { id = d.id; len = n; kind = d.kind; live = d.live; list = d.list; redone = d.redone }))) len
-    (said_some limit m (g.R.Reader.stretch s.below c.args.place) d (g.R.Reader.settled s.below c.args.place) c.in-Some.ensures (subst (λ x. d.id.clock < x) c.limit-limit.ensures c.if-limit-d.false))
+    let run = c.in_ok-run.run' in
+    let len : min run.len (limit run.id.client - run.id.clock) ≡ c.min-len.result = ap (λ x. min run.len (x - run.id.clock)) (sym c.limit-limit.ensures) ∙ sym c.min-len.ensures in
+    subst (λ n. Described (clipped limit m) (cut limit m (g.R.Reader.stretch s.below c.args.place)) (Some (record { id = run.id; len = n; kind = run.kind; live = run.live; list = run.list; redone = run.redone }))) len
+    (said_some limit m (g.R.Reader.stretch s.below c.args.place) run (g.R.Reader.settled s.below c.args.place) c.in_ok-run.ensures (subst (λ x. run.id.clock < x) c.limit-limit.ensures c.if-limit-run.false))

@@ -1,0 +1,19 @@
+ghost use Rattle.std.specs.Prelude.{Some, ◌++◌, codes};
+
+use std::error::Error;
+use std::fmt;
+
+// A number that names nothing.
+#[derive(Clone, Copy, PartialEq, Eq, Debug)]
+pub struct UnknownNumber {
+    pub number: u8,
+}
+
+impl fmt::Display for UnknownNumber {
+    fn fmt<W: fmt::Write>(&self, f: &mut fmt::Formatter<W>) -> fmt::Result {
+        let number = self.number;
+        write!(f, "nothing has the number {number}")
+    }
+}
+
+impl Error for UnknownNumber {}

@@ -1,0 +1,130 @@
+use crate::parse;
+use crate::parse::cut;
+use crate::shown::Shown;
+use crate::tables::{print_faults, print_kinds};
+use crate::trouble::Trouble;
+use clip::pairs::Pairs;
+use reader::reader::Reader;
+use std::alloc::Global;
+use std::collections::BTreeMap;
+use sticky_index::index::StickyIndex;
+
+// Where questions on a document are answered: with the marks by their names, and the clips that lie on
+// the document, as one.
+#[derive(Drop)]
+pub(crate) struct Desk<'a, P: Print, R: Reader> {
+    rt: &'a P,
+    heap: Global,
+    document: &'a R,
+    lists: u32,
+    marks: BTreeMap<String, StickyIndex>,
+    clip: Option<Pairs>,
+}
+
+impl<'a, P: Print, R: Reader> Desk<'a, P, R> {
+    pub(crate) fn new(rt: &'a P, heap: Global, document: &'a R, lists: u32) -> Desk<'a, P, R> {
+        Desk {
+            rt,
+            heap,
+            document,
+            lists,
+            marks: BTreeMap::new(heap),
+            clip: None,
+        }
+    }
+
+    // One question, on the document or on what the clips show of it.
+    pub(crate) fn ask(&mut self, line: &str) -> Result<(), Trouble> {
+        let (word, rest) = cut(line);
+        match word {
+            "kinds" => print_kinds(self.rt)?,
+            "faults" => print_faults(self.rt)?,
+            "unclip" => self.clip = None,
+            "clip" => self.lay(rest)?,
+            _ => match self.clip {
+                None => {
+                    let shown = Shown {
+                        rt: self.rt,
+                        reader: self.document,
+                    };
+                    self.ask_shown(&shown, word, rest)?;
+                }
+                Some(pairs) => {
+                    let clipped = pairs.over(self.document);
+                    let shown = Shown {
+                        rt: self.rt,
+                        reader: &clipped,
+                    };
+                    self.ask_shown(&shown, word, rest)?;
+                }
+            },
+        }
+        Ok(())
+    }
+
+    // One more clip over those that lie there; a clip that is refused changes nothing.
+    fn lay(&mut self, text: &str) -> Result<(), Trouble> {
+        let pairs = parse::pairs(self.heap, text)?;
+        match Pairs::new(pairs.as_slice()) {
+            Err(fault) => println!(self.rt; "{fault}")?,
+            Ok(new) => {
+                self.clip = Some(match self.clip {
+                    None => new,
+                    Some(old) => new.join(old),
+                });
+            }
+        }
+        Ok(())
+    }
+
+    // One question, on the document as it is shown now.
+    fn ask_shown<S: Reader>(
+        &mut self,
+        shown: &Shown<'_, P, S>,
+        word: &str,
+        text: &str,
+    ) -> Result<(), Trouble> {
+        match word {
+            "mark" => self.keep(shown, text)?,
+            "where" => match self.marks.get(text) {
+                None => println!(self.rt; "{text}: no such mark")?,
+                Some(mark) => shown.print_where(text, *mark)?,
+            },
+            "steps" => self.ask_steps(shown, text)?,
+            "lists" => {
+                for list in 0..self.lists {
+                    shown.print_list(list)?;
+                }
+            }
+            "known" => match text.parse() {
+                Err(_) => println!(self.rt; "known CLIENT")?,
+                Ok(client) => shown.print_known(client)?,
+            },
+            _ => return Err(Trouble::Line("no such word")),
+        }
+        Ok(())
+    }
+
+    // mark NAME after|before K in LIST, or mark NAME after|before on ID
+    fn keep<S: Reader>(&mut self, shown: &Shown<'_, P, S>, text: &str) -> Result<(), Trouble> {
+        let (name, text) = cut(text);
+        if let Some(mark) = shown.mark(name, text)? {
+            self.marks.insert(String::from_str(self.heap, name)?, mark)?;
+        }
+        Ok(())
+    }
+
+    // steps NAME COUNT
+    fn ask_steps<S: Reader>(&self, shown: &Shown<'_, P, S>, text: &str) -> Result<(), Trouble> {
+        let (name, count) = cut(text);
+        let count = count
+            .parse::<u32>()
+            .ok()
+            .ok_or(Trouble::Line("steps NAME COUNT"))?;
+        match self.marks.get(name) {
+            None => println!(self.rt; "{name}: no such mark")?,
+            Some(mark) => shown.print_following(name, *mark, count)?,
+        }
+        Ok(())
+    }
+}
