@@ -86,7 +86,7 @@ impl<'r, R: Reader> Iterator for ArrayIter<'r, R> {
     }
 
     fn size_hint(&self) -> (usize, Option<usize>) {
-        let left = self.inner.len().saturating_sub(self.inner.index()) as usize;
+        let left = self.inner.left() as usize;
         (left, Some(left))
     }
 }

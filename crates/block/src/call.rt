@@ -14,8 +14,7 @@ impl Call {
         ensures { result ≡ asked self }
     {
         match self {
-            Call::Skip(n) => n,
-            Call::Read(n) => n,
+            Call::Skip(n) | Call::Read(n) => n,
         }
     }
 

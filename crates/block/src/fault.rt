@@ -1,17 +1,17 @@
 ghost use Rattle.std.specs.Prelude.{◌≡◌, Some, MatchResult, ◌≢◌};
 ghost use Rattle.std.specs.Fmt.{padded};
 ghost use Rattle.block.specs.declared.fault.Code.{Code};
-ghost use Rattle.block.specs.Faults.{code_number, code_words, part_name};
+ghost use Rattle.block.specs.Faults.{code_number, code_words, part_name, spot_text, fault_text};
 
 use crate::ids::Id;
 use crate::number::UnknownNumber;
 use std::error::Error;
 use std::fmt;
 
-// What was wrong.
+// What was wrong. The codes stand in the order of their numbers, from 1.
 #[derive(Clone, Copy, PartialEq, Eq, Debug)]
 pub enum Code {
-    OutOfRange,
+    OutOfRange = 1,
     Overlap,
     Disagreement,
     Content,
@@ -68,20 +68,7 @@ impl From<Code> for u8 {
     ghost from_gives = { λ code number. number ≡ code_number code };
 
     fn from(code: Code) -> u8 {
-        match code {
-            Code::OutOfRange => 1,
-            Code::Overlap => 2,
-            Code::Disagreement => 3,
-            Code::Content => 4,
-            Code::NoSuchList => 5,
-            Code::BeyondLength => 6,
-            Code::NotKnown => 7,
-            Code::NotListed => 8,
-            Code::TooManyRedone => 9,
-            Code::LimitPassed => 10,
-            Code::Misplaced => 11,
-            Code::Backwards => 12,
-        }
+        code as u8
     }
 }
 
@@ -92,21 +79,9 @@ impl TryFrom<u8> for Code {
     ghost try_from_gives = { λ number r. MatchResult r (λ code. code_number code ≡ number) (λ e. (e.number ≡ number) × ((code : Code) → code_number code ≢ number)) };
 
     fn try_from(number: u8) -> Result<Code, UnknownNumber> {
-        match number {
-            1 => Ok(Code::OutOfRange),
-            2 => Ok(Code::Overlap),
-            3 => Ok(Code::Disagreement),
-            4 => Ok(Code::Content),
-            5 => Ok(Code::NoSuchList),
-            6 => Ok(Code::BeyondLength),
-            7 => Ok(Code::NotKnown),
-            8 => Ok(Code::NotListed),
-            9 => Ok(Code::TooManyRedone),
-            10 => Ok(Code::LimitPassed),
-            11 => Ok(Code::Misplaced),
-            12 => Ok(Code::Backwards),
-            _ => Err(UnknownNumber { number }),
-        }
+        let unknown = UnknownNumber { number };
+        let place = number.checked_sub(1).ok_or(unknown)?;
+        Code::ALL.get(place as usize).copied().ok_or(unknown)
     }
 }
 
@@ -197,6 +172,8 @@ impl Fault {
 impl Error for Fault {}
 
 impl fmt::Display for Spot {
+    ghost output = { λ spot. Some (spot_text spot) };
+
     fn fmt<W: fmt::Write>(&self, f: &mut fmt::Formatter<W>) -> fmt::Result {
         match *self {
             Spot::Nowhere => write!(f, "no place"),
@@ -213,6 +190,8 @@ impl fmt::Display for Spot {
 
 // One line: `fault 6: beyond the length of the list (cursor, list 0)`.
 impl fmt::Display for Fault {
+    ghost output = { λ fault. Some (fault_text fault) };
+
     fn fmt<W: fmt::Write>(&self, f: &mut fmt::Formatter<W>) -> fmt::Result {
         let Fault {
             code,

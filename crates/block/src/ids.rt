@@ -1,5 +1,5 @@
-ghost use Rattle.std.specs.Prelude.{◌≡◌, ◌^◌, nat_lt};
-ghost use Rattle.block.specs.Ids.{offset_in};
+ghost use Rattle.std.specs.Prelude.{◌≡◌, ◌^◌, Some, nat_lt};
+ghost use Rattle.block.specs.Ids.{offset_in, id_text};
 
 use std::fmt;
 
@@ -25,6 +25,8 @@ impl Id {
 }
 
 impl fmt::Display for Id {
+    ghost output = { λ id. Some (id_text id) };
+
     fn fmt<W: fmt::Write>(&self, f: &mut fmt::Formatter<W>) -> fmt::Result {
         let Id { client, clock } = *self;
         write!(f, "{client}:{clock}")

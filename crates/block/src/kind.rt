@@ -6,7 +6,7 @@ ghost use Rattle.block.specs.declared.kind.Kind.{Kind};
 use crate::number::UnknownNumber;
 use std::fmt;
 
-// What a run's units are.
+// What a run's units are. The kinds stand in the order of their numbers, from 0.
 #[derive(Clone, Copy, PartialEq, Eq, Debug)]
 pub enum Kind {
     Gc,
@@ -79,19 +79,7 @@ impl From<Kind> for u8 {
     ghost from_gives = { λ kind number. number ≡ number_of kind };
 
     fn from(kind: Kind) -> u8 {
-        match kind {
-            Kind::Gc => 0,
-            Kind::Deleted => 1,
-            Kind::Json => 2,
-            Kind::Binary => 3,
-            Kind::Text => 4,
-            Kind::Embed => 5,
-            Kind::Format => 6,
-            Kind::List => 7,
-            Kind::Any => 8,
-            Kind::Doc => 9,
-            Kind::Skip => 10,
-        }
+        kind as u8
     }
 }
 
@@ -102,20 +90,10 @@ impl TryFrom<u8> for Kind {
     ghost try_from_gives = { λ number r. MatchResult r (λ kind. number_of kind ≡ number) (λ e. (e.number ≡ number) × ((kind : Kind) → number_of kind ≢ number)) };
 
     fn try_from(number: u8) -> Result<Kind, UnknownNumber> {
-        match number {
-            0 => Ok(Kind::Gc),
-            1 => Ok(Kind::Deleted),
-            2 => Ok(Kind::Json),
-            3 => Ok(Kind::Binary),
-            4 => Ok(Kind::Text),
-            5 => Ok(Kind::Embed),
-            6 => Ok(Kind::Format),
-            7 => Ok(Kind::List),
-            8 => Ok(Kind::Any),
-            9 => Ok(Kind::Doc),
-            10 => Ok(Kind::Skip),
-            _ => Err(UnknownNumber { number }),
-        }
+        Kind::ALL
+            .get(number as usize)
+            .copied()
+            .ok_or(UnknownNumber { number })
     }
 }
 

@@ -1,4 +1,5 @@
 ghost use Rattle.std.specs.Prelude.{Some, ◌++◌, codes};
+ghost use Rattle.std.specs.Fmt.{decimal};
 
 use std::error::Error;
 use std::fmt;
@@ -10,6 +11,8 @@ pub struct UnknownNumber {
 }
 
 impl fmt::Display for UnknownNumber {
+    ghost output = { λ unknown. Some (codes "nothing has the number " ++ decimal unknown.number) };
+
     fn fmt<W: fmt::Write>(&self, f: &mut fmt::Formatter<W>) -> fmt::Result {
         let number = self.number;
         write!(f, "nothing has the number {number}")

@@ -15,7 +15,7 @@ use Rattle.reader.specs.Answers.{Reads, valued, units_from}
 use Rattle.block_iter.specs.Walks.{Sees, Stepped, Shows, Took, visible_in}
 use Rattle.block_iter.proofs.Steps.{sees_at, walk_more}
 
-put_front : (slots part : List Slot) (used k n : ℕ) → used ≤ length slots → n ≤ length part → take (used + n) (put_mid used k slots part) ≡ take used slots ++ take n part
+pub put_front : (slots part : List Slot) (used k n : ℕ) → used ≤ length slots → n ≤ length part → take (used + n) (put_mid used k slots part) ≡ take used slots ++ take n part
 put_front slots part used k n h f =
     let rest = post_of used k slots in
     let at : length (take used slots) ≡ used = simp length-take (omega arith) in

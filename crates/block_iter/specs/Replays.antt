@@ -20,20 +20,19 @@ abbrev pub outcome_of : Result ℕ Fault → Result (Unit {0}) Fault
 outcome_of (Ok n) = Ok tt
 outcome_of (Err e) = Err e
 
--- a cursor with its slots so far is where a plain cursor is
-pub record Matches {R P : Type 0} (shown : R → Slot → Option (Kind × Worth)) (s : Plain) (c : Cursor R P) (slots : List Slot) (used : ℕ) : Type 0 where
+-- a cursor with the slots that were filled so far is where a plain cursor is
+pub record Matches {R P : Type 0} (shown : R → Slot → Option (Kind × Worth)) (s : Plain) (c : Cursor R P) (slots : List Slot) : Type 0 where
   pub index : c.index ≡ s.index
-  pub many : used ≡ length s.shown
-  pub values : Shows (shown c.reader) (take used slots) s.shown
+  pub values : Shows (shown c.reader) slots s.shown
 
 -- one call in numbers, on a list of len visible units: the index, and how many slots are filled, after it
 abbrev pub counted : ℕ → ℕ × ℕ → Call → ℕ × ℕ
 counted len t call = cond (nat_lt len (t.0 + asked call)) t (t.0 + asked call, t.1 + filled call)
 
 -- there are slots for what a call reads
-abbrev pub Room : {R P : Type 0} → (R → Meaning) → Cursor R P → Call → ℕ → ℕ → Type 0
-Room meaning c (Skip n) used room = Unit {0}
-Room meaning c (Read n) used room = (used ≤ room) × (c.index + n ≤ length (visible_of meaning c) → used + n ≤ room)
+abbrev pub Room : {R P : Type 0} → (R → Meaning) → Cursor R P → Call → ℕ → Type 0
+Room meaning c (Skip n) room = Unit {0}
+Room meaning c (Read n) room = c.index + n ≤ length (visible_of meaning c) → n ≤ room
 
 -- a fresh cursor, with room for the outcomes of all calls and for what they read
 pub record Ready {R P : Type 0} (meaning : R → Meaning) (c : Cursor R P) (calls : List Call) (outs room : ℕ) : Type 0 where
@@ -41,11 +40,11 @@ pub record Ready {R P : Type 0} (meaning : R → Meaning) (c : Cursor R P) (call
   pub each : length calls ≤ outs
   pub enough : length (plain_run c.list (visible_of meaning c) calls).shown ≤ room
 
--- one call goes as the plain cursor's
-abbrev pub Performed : {R P : Type 0} → (R → Meaning) → (R → Slot → Option (Kind × Worth)) → Cursor R P → Call → List Slot → ℕ → Result ℕ Fault → Cursor R P → List Slot → Type 0
-Performed meaning shown c call slots used r d after =
-    (s : Plain) → Matches shown s c slots used →
-    ((plain_call c.list (visible_of meaning c) s call).outcomes ≡ s.outcomes ++ (outcome_of r ∷ [])) × Matches shown (plain_call c.list (visible_of meaning c) s call) d after (used + result_unwrap_or r 0)
+-- one call goes as the plain cursor's: the slots that it fills come after those that were filled before it
+abbrev pub Performed : {R P : Type 0} → (R → Meaning) → (R → Slot → Option (Kind × Worth)) → Cursor R P → Call → Result ℕ Fault → Cursor R P → List Slot → Type 0
+Performed meaning shown c call r d after =
+    (s : Plain) (slots : List Slot) → Matches shown s c slots →
+    ((plain_call c.list (visible_of meaning c) s call).outcomes ≡ s.outcomes ++ (outcome_of r ∷ [])) × Matches shown (plain_call c.list (visible_of meaning c) s call) d (slots ++ take (result_unwrap_or r 0) after)
 
 -- what all calls leave: the plain cursor's outcomes, index and shown units; it has passed the first visible units,
 -- each once, as many as its index `at`; outcomes and slots that were not used stay

@@ -58,7 +58,7 @@ impl<R: Reader> BlockIter<R> {
         ensures room { is_ok result ≡ true → count ≤ self.now.len - self.now.index }
         ensures answer { result ≡ answer self.now.list (visible_of R.Reader.meaning self.now) self.now.index count }
     {
-        if (self.len.saturating_sub(self.index) as usize) < count {
+        if (self.left() as usize) < count {
             return Err(Fault::new(Part::Cursor, Code::BeyondLength, Spot::List(self.list)));
         }
         Ok(())
@@ -122,6 +122,14 @@ impl<R: Reader> BlockIter<R> {
         self.len
     }
 
+    // How many visible units are left.
+    pub fn left(&self) -> u32
+        ensures left { result ≡ self.now.len - self.now.index }
+        ensures counted { result ≡ length (visible_of R.Reader.meaning self.now) - self.now.index }
+    {
+        self.len.saturating_sub(self.index)
+    }
+
     // The reader, to ask it while the cursor is open.
     pub fn reader(&self) -> &R
         ensures { result.now ≡ self.now.reader }
@@ -133,13 +141,6 @@ impl<R: Reader> BlockIter<R> {
     pub fn close(self) -> R
         ensures { result ≡ self.reader }
     {
-        let BlockIter {
-            reader,
-            list: _list,
-            len: _len,
-            at: _at,
-            index: _index,
-        } = self;
-        reader
+        self.reader
     }
 }

@@ -11,7 +11,7 @@ pub(crate) struct Position<P> {
     pub rel: u32,
 }
 
-// How many visible units the run at a place has.
+// How many visible units the run at a place has: one expression, here and where marks count.
 fn visible_at<R: Reader>(reader: &R, place: R::Place) -> u32
     ensures { result ≡ visible_in (R.Reader.meaning reader.now) (R.Reader.stretch reader.now place) }
 {

@@ -78,17 +78,17 @@ fn room_for(len: u32, calls: &[Call], outcomes: usize, slots: usize) -> Result<(
     Ok(())
 }
 
-// Makes one call, and says how many slots it filled, behind the `used` ones.
+// Makes one call, and says how many of the slots it filled, from the first on.
 fn perform<R: Reader>(
     cursor: &mut BlockIter<R>,
     call: Call,
     slots: &mut [Slot],
-    used: usize,
 ) -> Result<usize, Fault>
-    requires { Room R.Reader.meaning cursor.old call used (length slots.old) }
+    requires { Room R.Reader.meaning cursor.old call (length slots.old) }
     ensures same { Same cursor.old cursor.new }
-    ensures plain { Performed R.Reader.meaning R.Reader.shown cursor.old call slots.old used result cursor.new slots.new }
-    ensures rest { drop (used + result_unwrap_or result 0) slots.new ≡ drop (used + result_unwrap_or result 0) slots.old }
+    ensures plain { Performed R.Reader.meaning R.Reader.shown cursor.old call result cursor.new slots.new }
+    ensures most { result_unwrap_or result 0 ≤ length slots.old }
+    ensures rest { drop (result_unwrap_or result 0) slots.new ≡ drop (result_unwrap_or result 0) slots.old }
 {
     match call {
         Call::Skip(n) => {
@@ -98,7 +98,7 @@ fn perform<R: Reader>(
         Call::Read(n) => {
             let count = n as usize;
             cursor.allows(count)?;
-            cursor.slice(&mut slots[used..used + count])?;
+            cursor.slice(&mut slots[..count])?;
             Ok(count)
         }
     }
@@ -116,8 +116,10 @@ fn perform_all<R: Reader>(
     ensures played { Played (visible_of R.Reader.meaning cursor.old) cursor.old.list (R.Reader.shown cursor.old.reader) calls.now outcomes.old outcomes.new slots.old slots.new cursor.new.index result }
 {
     let mut used = 0;
+    // By the index: a loop over `outcomes.iter_mut().zip(calls)` was tried, and what it wrote is not
+    // told at its end.
     for (i, call) in calls.iter().enumerate() {
-        let filled = perform(cursor, *call, slots, used);
+        let filled = perform(cursor, *call, &mut slots[used..]);
         outcomes[i] = filled.map(|_| ());
         used += filled.unwrap_or(0);
     }

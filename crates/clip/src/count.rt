@@ -8,7 +8,7 @@ use block::fault::Fault;
 use reader::reader::Reader;
 
 impl<R: Reader> Clip<R> {
-    // How many visible units of a run the clip shows.
+    // How many visible units of a run the clip shows: one expression, over what the clip says of the run.
     fn adds(&self, place: R::Place) -> u32
         ensures { result ≡ adds_of (limit_of self.now.pairs) (R.Reader.meaning self.now.below) (R.Reader.stretch self.now.below place) }
     {

@@ -6,7 +6,7 @@ ghost use Rattle.clip.specs.Joined.{Joined, OneClip};
 use crate::clip::Clip;
 use crate::made::is_listed;
 use crate::pair::Pair;
-use crate::pairs::Pairs;
+use crate::pairs::{MOST_PAIRS, Pairs};
 
 impl Pair {
     // The pair with the lesser of its clock and another.
@@ -26,7 +26,7 @@ impl Pairs {
         ensures { pairs_of result ≡ [] }
     {
         Pairs {
-            pairs: [Pair::default(); 64],
+            pairs: [Pair::default(); MOST_PAIRS],
             count: 0,
         }
     }

@@ -3,7 +3,7 @@ ghost use Rattle.clip.specs.Pairing.{in_range, listed, sound};
 ghost use Rattle.clip.specs.Made.{Made};
 
 use crate::pair::Pair;
-use crate::pairs::Pairs;
+use crate::pairs::{MOST_PAIRS, Pairs};
 use block::fault::{Code, Fault, Part, Spot};
 use block::ids::is_client;
 
@@ -27,6 +27,7 @@ pub(crate) fn is_listed(pairs: &[Pair], client: u64) -> bool
 fn is_sound(pairs: &[Pair]) -> bool
     ensures { result ≡ sound pairs.now }
 {
+    // a `while let`, since each pair is held against those after it
     let mut rest = pairs;
     while let Some((p, after)) = rest.split_first() {
         if !p.is_in_range() || is_listed(after, p.client) {
@@ -46,11 +47,11 @@ impl Pairs {
         if !is_sound(pairs) {
             return Err(Fault::new(Part::Clip, Code::OutOfRange, Spot::Nowhere));
         }
-        if pairs.len() > 64 {
+        if pairs.len() > MOST_PAIRS {
             return Err(Fault::new(Part::Clip, Code::LimitPassed, Spot::Nowhere));
         }
         let count = pairs.len();
-        let mut all = [Pair::default(); 64];
+        let mut all = [Pair::default(); MOST_PAIRS];
         all[..count].copy_from_slice(pairs);
         Ok(Pairs { pairs: all, count })
     }

@@ -5,7 +5,8 @@ ghost use Rattle.clip.specs.Walks.{NextTo, Skips};
 use crate::clip::Clip;
 use reader::reader::Reader;
 
-// Which way a walk goes. An enum and no closure: what shrinks on the way is told by it.
+// Which way a walk goes. The walk's measure is chosen by the way, so the way is a value and not a
+// closure. (`iter::successors` was tried too: its end is not promised, the goal is false.)
 #[derive(Clone, Copy)]
 pub(crate) enum Way {
     Left,

@@ -4,15 +4,13 @@ ghost use Rattle.store.specs.Records.{held};
 ghost use Rattle.content.specs.Content.{is_text, spells, run_filled, run_filled_at};
 
 use block::kind::Kind;
-use store::kinds::{entries_of, kind_of};
 use store::records::{RunRecord, View};
 use utf8::text::count_basic;
 
-// The record has the raw byte, since a damaged store holds any.
 fn is_text(run: RunRecord) -> bool
     ensures { result ≡ is_text run }
 {
-    run.kind == u8::from(Kind::Text)
+    run.kind() == Kind::Text
 }
 
 // Whether the bytes of a run are a text of as many characters as it has units, none above U+FFFF.
@@ -26,7 +24,7 @@ fn spells(view: &View<'_>, run: RunRecord) -> bool
 fn is_filled(view: &View<'_>, run: RunRecord) -> bool
     ensures { result ≡ run_filled (held view.now) run }
 {
-    run.entry as usize + entries_of(kind_of(run.kind), run.len) as usize <= view.entries.len()
+    run.entry as usize + run.entries() as usize <= view.entries.len()
         && (!is_text(run) || spells(view, run))
 }
 

@@ -3,14 +3,13 @@ ghost use Rattle.store.specs.First.{first_bad, passing};
 ghost use Rattle.store.specs.Records.{held};
 ghost use Rattle.content.specs.Content.{has_entry, has_entry_at, entry_serves_at, has_byte, has_byte_at, byte_serves_at};
 
-use store::kinds::{entries_of, kind_of};
 use store::records::{EntryRecord, RunRecord, View};
 
 fn has_entry(run: RunRecord, e: usize) -> bool
     ensures { result ≡ has_entry run e }
 {
     let first = run.entry as usize;
-    let end = first + entries_of(kind_of(run.kind), run.len) as usize;
+    let end = first + run.entries() as usize;
     (first..end).contains(&e)
 }
 

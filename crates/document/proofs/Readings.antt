@@ -1,6 +1,6 @@
 -- Filled slots are what a reader is to give.
-use Rattle.std.proofs.Common.{◌≡◌, ℕ, ◌+◌, ◌-◌, ◌<◌, ◌≤◌, min, Bool, true, false, cond, List, [], map, length, get_or, take, drop, is_some, Some, None, Option, sym, refl, ap, ◌∙◌, subst, inl, inr, ⊎_elim, arith}
-use Rattle.std.proofs.lemmas.List.{ext_get_or, length-map, get_or-map, length-take-le, get_or-take, get_or-drop, length-drop, get_or_past}
+use Rattle.std.proofs.Common.{◌≡◌, ℕ, ◌+◌, ◌-◌, ◌<◌, ◌≤◌, min, Bool, true, false, cond, List, [], ◌++◌, map, length, get_or, take, drop, is_some, Some, None, Option, sym, refl, ap, ◌∙◌, subst, inl, inr, ⊎_elim, arith}
+use Rattle.std.proofs.lemmas.List.{ext_get_or, length-map, get_or-map, length-take-le, get_or-take, get_or-drop, length-drop, length-append, drop_at, get_or_append_left, get_or_past}
 use Rattle.std.proofs.lemmas.Bool.{false≢true, cases_Bool, cases_lt, cond-true, cond-false}
 use Rattle.block.specs.Kinds.{is_counted}
 use Rattle.block.specs.Units.{UnitOf, Stretch, Worth, no_unit, unit_at}
@@ -55,7 +55,16 @@ unlisted : (a : Bool) (x : Bool) (l : Option ℕ) → cond a x (is_some l) ≡ t
 unlisted true x l h e = refl
 unlisted false x l h e = absurd (false≢true (sym (ap is_some e) ∙ h))
 
-module _ (d : Store) (ps : Passing d) (p off n : ℕ) (before after : List Slot) (full : n ≡ count_from (run_at d p) off (length before)) (done : Filled (λ k. slot_of d (kind_of (run_at d p).kind) (run_at d p) (off + k)) n before after) where
+module _ (d : Store) (ps : Passing d) (p off n : ℕ) (before part : List Slot) (full : n ≡ count_from (run_at d p) off (length before)) (done : Filled (λ k. slot_of d (kind_of (run_at d p).kind) (run_at d p) (off + k)) (take n before) part) where
+  abbrev after : List Slot
+  after = part ++ drop n before
+
+  enough : length (take n before) ≡ n
+  enough = length-take-le n before (omega (arith, full))
+
+  rest : drop n after ≡ drop n before
+  rest = drop_at part (drop n before) n (done.long ∙ enough)
+
   abbrev sd : Sound d
   sd = sound d ps
 
@@ -85,12 +94,12 @@ module _ (d : Store) (ps : Passing d) (p off n : ℕ) (before after : List Slot)
         let e : cond (is_counted (kind_of (run_at d p).kind)) ((run_at d p).len - off) 0 ≡ (run_at d p).len - off = cond-true _ _ _ t in
         let u = long_U d sd l p x st in
         let q = length-drop (x + off) (units_in d l) in
-        let long = done.long in
-        same_front (shown_in d) facets after (drop (x + off) (units_in d l)) n Empty no_unit (omega (arith, full, long)) (omega (arith, full, e, u, q))
+        let long : n ≤ length after = omega (arith, done.long, enough, length-append part (drop n before)) in
+        same_front (shown_in d) facets after (drop (x + off) (units_in d l)) n Empty no_unit long (omega (arith, full, e, u, q))
         (λ k lt.
         let inner : off + k < (run_at d p).len = omega (arith, full, e, lt) in
         let y : (x + off) + k ≡ x + (off + k) = omega arith in
-        ap (shown_in d) (done.written k lt)
+        ap (shown_in d) (get_or_append_left part (drop n before) Empty k (omega (arith, done.long, enough, lt)) ∙ done.written k (omega (arith, enough, lt)))
         ∙ shown_unit d ps p st.below (kind_of (run_at d p).kind) (off + k) refl t inner
         ∙ sym (ap facets (get_or-drop (x + off) (units_in d l) k no_unit ∙ ap (λ (m : ℕ). get_or (units_in d l) m no_unit) y ∙ unit_there (off + k) inner)))
 
@@ -102,11 +111,11 @@ module _ (d : Store) (ps : Passing d) (p off n : ℕ) (before after : List Slot)
         record {
           many = full ∙ ap (λ (k : Kind). min (cond (is_counted k) ((run_at d p).len - off) 0) (length before)) (sym kind_there);
           values = ⊎_elim counted_values (λ f. no_values (drop (x + off) (units_in d l)) (nothing f)) (cases_Bool (is_counted (kind_of (run_at d p).kind)));
-          rest = done.rest;
+          rest = rest;
         }
 
   read_at : (o : Option Stretch) → stretch_of d p ≡ o → Reads (meaning_of d) (shown_in d) o off before after n
-  read_at None h = let e = nothing (foreign h) in record { many = omega (arith, e); values = no_values [] e; rest = done.rest }
+  read_at None h = let e = nothing (foreign h) in record { many = omega (arith, e); values = no_values [] e; rest = rest }
   read_at (Some t) h =
       let i = stretched_is (run_at d p).list (offset d p) (run_at d p).len t h in
       subst (λ (t : Stretch). Reads (meaning_of d) (shown_in d) (Some t) off before after n) (sym i.is) (read_run i.l i.x (record { below = placed d sd p t h; list = i.list; from = i.from }))

@@ -39,16 +39,16 @@ module _ (d : Store) (ps : Passing d) (p : ℕ) (lt : p < length d.runs) (text :
   in_run same = let q = ap (λ (r : RunRecord). r.len) er in omega (arith, same, q, le)
 
   -- as many bytes as units: each unit is one byte
-  pub by_bytes : (xs ys : List Slot) → e.len ≡ r.len → Filled (byte_slot (e.start + off)) n xs ys → Filled (λ k. slot_of d kinds.Text (run_at d p) (off + k)) n xs ys
-  by_bytes xs ys same h =
-      filled_as _ _ n xs ys h
+  pub by_bytes : (xs ys : List Slot) → length xs ≡ n → e.len ≡ r.len → Filled (byte_slot (e.start + off)) xs ys → Filled (λ k. slot_of d kinds.Text (run_at d p) (off + k)) xs ys
+  by_bytes xs ys many same h =
+      filled_as _ _ xs ys h
       (λ k lk.
       let cs : List (List ℕ) = characters utf8_char (bytes_of d (entry_at d (run_at d p).entry)) in
       let q = ap (λ (r : RunRecord). r.len) er in
       let b = len_is in
       let m = t.many in
       let l = t.long in
-      let o = one_byte utf8_char (sound All) cs (bytes_of d (entry_at d (run_at d p).entry)) (off + k) t.spelled (omega (arith, q, b, m, l, same)) (omega (arith, m, le, lk)) in
+      let o = one_byte utf8_char (sound All) cs (bytes_of d (entry_at d (run_at d p).entry)) (off + k) t.spelled (omega (arith, q, b, m, l, same)) (omega (arith, m, le, lk, many)) in
       let x = o.0 in
       let s = start_is in
       let at : (e.start + off) + k ≡ (entry_at d (run_at d p).entry).start + place_of cs (off + k) = omega (arith, x, s) in

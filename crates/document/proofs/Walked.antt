@@ -8,12 +8,12 @@ use Rattle.utf8.specs.Table.{utf8_char}
 use Rattle.utf8.specs.Texts.{Spelled}
 use Rattle.utf8.specs.declared.planes.Planes.TheVariants.{All}
 use Rattle.utf8.proofs.Tables.{sound}
-use Rattle.document.specs.Slots.{place_of, text_slot, Filled}
+use Rattle.document.specs.Slots.{place_of, text_slot, Written}
 use Rattle.document.proofs.Fills.{none_written, one_written}
 use Rattle.document.proofs.Texts.{lies_at, measured_at}
 
 abbrev pub Walked : List ℕ → ℕ → ℕ → ℕ → ℕ → ℕ → List Slot → List Slot → Type 0
-Walked bs start from n k at xs ys = Filled (λ i. text_slot start (characters utf8_char bs) (from + i)) k xs ys × (k < n → at ≡ place_of (characters utf8_char bs) (from + k))
+Walked bs start from n k at xs ys = Written (λ i v. v ≡ text_slot start (characters utf8_char bs) (from + i)) k xs ys × (k < n → at ≡ place_of (characters utf8_char bs) (from + k))
 
 -- the character that the walk has come to
 pub record Here (bs : List ℕ) (from k at len : ℕ) : Type 0 where

@@ -54,12 +54,11 @@ slot_of s kinds.Skip r k = slots.Empty
 abbrev pub count_from : RunRecord → ℕ → ℕ → ℕ
 count_from r offset room = min (cond (is_counted (kind_of r.kind)) (r.len - offset) 0) room
 
--- each of the first n slots is one that its number allows, the others stay
+-- each of the first n slots is one that its number allows
 pub record Written (allows : ℕ → Slot → Type 0) (n : ℕ) (before after : List Slot) : Type 0 where
   pub written : (k : ℕ) → k < n → allows k (slice_index_or after k slots.Empty)
-  pub rest : drop n after ≡ drop n before
   pub long : length after ≡ length before
 
--- the first n slots are these
-abbrev pub Filled : (ℕ → Slot) → ℕ → List Slot → List Slot → Type 0
-Filled f n before after = Written (λ k v. v ≡ f k) n before after
+-- the slots are these
+abbrev pub Filled : (ℕ → Slot) → List Slot → List Slot → Type 0
+Filled f before after = Written (λ k v. v ≡ f k) (length before) before after

@@ -15,7 +15,6 @@ use block::fault::{Code, Fault, Spot};
 use block::ids::Id;
 use block::slot::{Slot, Value};
 use reader::reader::{Description, Reader};
-use store::kinds::kind_of;
 use store::records::{ListRecord, View};
 use store::refusal::fault_at;
 
@@ -86,7 +85,7 @@ impl<'b, 'a> Reader for Document<'b, 'a> {
         Some(Description {
             id: run.id,
             len: run.len,
-            kind: kind_of(run.kind),
+            kind: run.kind(),
             live: run.live,
             list,
             redone: run.redone,
@@ -119,7 +118,7 @@ impl<'b, 'a> Reader for Document<'b, 'a> {
 
     fn read(&self, place: u32, offset: u32, slots: &mut [Slot]) -> usize {
         let n = count_from(self.view.run(place as usize), offset, slots.len());
-        self.fill(place as usize, offset, n, slots);
+        self.fill(place as usize, offset, &mut slots[..n]);
         n
     }
 

@@ -4,7 +4,6 @@ ghost use Rattle.document.specs.Finds.{find_run, is_due, Due};
 ghost use Rattle.document.specs.Meaning.{clock_in};
 
 use block::ids::Id;
-use store::clocks::end_of;
 use store::records::{RunRecord, View};
 
 // The first run that has the unit.
@@ -30,7 +29,7 @@ pub fn clock_of(view: &View<'_>, client: u64) -> u32
 fn is_due(client: u64, clock: u32, run: RunRecord) -> bool
     ensures { result ≡ is_due client clock run }
 {
-    run.list.is_some() && run.id.client == client && (clock as u64) < end_of(run)
+    run.list.is_some() && run.id.client == client && (clock as u64) < run.end()
 }
 
 // A client's listed run at a clock, or the next one after it.

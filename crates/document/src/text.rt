@@ -11,12 +11,11 @@ use utf8::character::length_at;
 use utf8::text::locate;
 
 // A slot for each byte from the first on.
-pub(crate) fn fill_bytes(start: u32, n: usize, slots: &mut [Slot])
-    requires { (n ≤ length slots.old) × (start + n < 2 ^ 32) }
-    ensures { Filled (byte_slot start) n slots.old slots.new }
+pub(crate) fn fill_bytes(start: u32, slots: &mut [Slot])
+    requires { start + length slots.old < 2 ^ 32 }
+    ensures { Filled (byte_slot start) slots.old slots.new }
 {
     fill_with(
-        n,
         slots,
         |k| Slot::Content {
             kind: Kind::Text,
@@ -41,14 +40,14 @@ fn length_here(text: &[u8], at: usize) -> usize
 }
 
 // A slot for each character of a text, from a character on.
-pub(crate) fn fill_characters(text: &[u8], start: u32, from: usize, n: usize, slots: &mut [Slot])
+pub(crate) fn fill_characters(text: &[u8], start: u32, from: usize, slots: &mut [Slot])
     requires spelled { Spelled utf8_char (characters utf8_char text.now) text.now }
-    requires room { (n ≤ length slots.old) × ((from + n ≤ length (characters utf8_char text.now)) × (start + length text.now < 2 ^ 32)) }
-    ensures { Filled (λ k. text_slot start (characters utf8_char text.now) (from + k)) n slots.old slots.new }
+    requires room { (from + length slots.old ≤ length (characters utf8_char text.now)) × (start + length text.now < 2 ^ 32) }
+    ensures { Filled (λ k. text_slot start (characters utf8_char text.now) (from + k)) slots.old slots.new }
 {
     // No `fill_with`: each character begins where the one before it ends.
     let mut at = place_of(text, from);
-    for slot in slots[..n].iter_mut() {
+    for slot in slots.iter_mut() {
         let len = length_here(text, at);
         *slot = Slot::Content {
             kind: Kind::Text,

@@ -1,6 +1,6 @@
 ghost use Rattle.std.specs.Prelude.{◌≡◌};
 ghost use Rattle.store.specs.Records.{held};
-ghost use Rattle.edit.specs.Aims.{fault_of, listed_run, placed, Passed, aimed};
+ghost use Rattle.edit.specs.Aims.{listed_run, placed, Passed, aimed};
 
 use block::fault::{Code, Fault, Part, Spot};
 use block::ids::Id;
@@ -9,14 +9,7 @@ use document::find::clock_of;
 use store::records::View;
 use store::tables::Tables;
 
-// A fault that an edit has.
-pub(crate) fn fault_of(code: Code, spot: Spot) -> Fault
-    ensures { result ≡ fault_of code spot }
-{
-    Fault::new(Part::Edit, code, spot)
-}
-
-// The run of a list that has the unit.
+// The run of a list that has the unit; `run_with` of a document may find one that is in no list.
 fn listed_run(view: &View<'_>, id: Id) -> Option<usize>
     ensures { result ≡ listed_run (held view.now) id }
 {
@@ -28,9 +21,9 @@ pub(crate) fn placed(view: &View<'_>, id: Id) -> Result<usize, Fault>
     ensures { result ≡ placed (held view.now) id }
 {
     if id.clock >= clock_of(view, id.client) {
-        return Err(fault_of(Code::NotKnown, Spot::Unit(id)));
+        return Err(Fault::new(Part::Edit, Code::NotKnown, Spot::Unit(id)));
     }
-    listed_run(view, id).ok_or(fault_of(Code::NotListed, Spot::Unit(id)))
+    listed_run(view, id).ok_or(Fault::new(Part::Edit, Code::NotListed, Spot::Unit(id)))
 }
 
 // The records in use; refused where the tables do not pass examination.

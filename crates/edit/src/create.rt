@@ -6,20 +6,19 @@ ghost use Rattle.edit.specs.Aims.{table_fault};
 ghost use Rattle.edit.specs.Creation.{root_fault, rooted, created, Blank};
 ghost use Rattle.edit.specs.Edits.{all_of};
 
-use crate::aim::fault_of;
-use block::fault::{Code, Fault, Spot};
+use block::fault::{Code, Fault, Part, Spot};
 use store::records::ListRecord;
 use store::tables::{LISTS, Tables};
 
-// Refuses so many roots where a document has no so many, or the tables no room.
+// Refuses a number of roots that no document has, or that the tables have no room for.
 fn fit_roots(room: usize, roots: u32) -> Result<(), Fault>
     ensures { result ≡ unless_fault (root_fault room roots) }
 {
     if roots == 0 || roots as usize > LISTS {
-        return Err(fault_of(Code::OutOfRange, Spot::Nowhere));
+        return Err(Fault::new(Part::Edit, Code::OutOfRange, Spot::Nowhere));
     }
     if roots as usize > room {
-        return Err(fault_of(Code::LimitPassed, Spot::Nowhere));
+        return Err(Fault::new(Part::Edit, Code::LimitPassed, Spot::Nowhere));
     }
     Ok(())
 }

@@ -7,8 +7,8 @@ ghost use Rattle.edit.specs.Aims.{redo_placed, redo_aimed, table_fault};
 ghost use Rattle.edit.specs.Edits.{all_of, with_all, redone_by, edited, answer};
 ghost use Rattle.edit.specs.Happenings.{renewal, happened};
 
-use crate::aim::{fault_of, passed, placed};
-use block::fault::{Code, Fault, Spot};
+use crate::aim::{passed, placed};
+use block::fault::{Code, Fault, Part, Spot};
 use block::ids::Id;
 use store::records::View;
 use store::tables::Tables;
@@ -21,7 +21,7 @@ fn redo_placed(view: &View<'_>, id: Id, successor: Id) -> Result<usize, Fault>
     placed(view, successor)?;
     let run = view.run(i);
     if run.live || run.redone.is_some() {
-        return Err(fault_of(Code::Misplaced, Spot::Unit(id)));
+        return Err(Fault::new(Part::Edit, Code::Misplaced, Spot::Unit(id)));
     }
     Ok(i)
 }

@@ -10,7 +10,6 @@ ghost use Rattle.edit.specs.Happenings.{death, happened};
 use crate::aim::aim;
 use block::fault::Fault;
 use block::ids::Id;
-use links::lengths::weight;
 use store::tables::Tables;
 
 fn kill(tables: &mut Tables<'_>, i: usize)
@@ -21,7 +20,7 @@ fn kill(tables: &mut Tables<'_>, i: usize)
     let run = tables.runs.records[i];
     tables.runs.records[i].live = false;
     if let Some(l) = run.list {
-        tables.lists.records[l as usize].len -= weight(run);
+        tables.lists.records[l as usize].len -= run.visible_len();
     }
 }
 

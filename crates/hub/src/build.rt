@@ -1,3 +1,4 @@
+use crate::parse;
 use crate::trouble::Trouble;
 use block::ids::Id;
 use block::kind::Kind;
@@ -48,9 +49,8 @@ impl Store {
     // A new, empty list: a root, or one that a unit holds.
     pub(crate) fn add_list(&mut self, holder: Option<Id>) -> Result<(), Trouble> {
         self.lists.push(ListRecord {
-            start: None,
             holder,
-            len: 0,
+            ..ListRecord::default()
         })?;
         Ok(())
     }
@@ -67,10 +67,9 @@ impl Store {
     // Stores the content of a run, and says how many units it has.
     fn add_content(&mut self, kind: Kind, content: &str) -> Result<u32, Trouble> {
         match kind {
-            Kind::Gc | Kind::Deleted | Kind::Skip => content
-                .parse::<u32>()
-                .ok()
-                .ok_or(Trouble::Line("this kind wants a count")),
+            Kind::Gc | Kind::Deleted | Kind::Skip => {
+                parse::number(content, "this kind wants a count")
+            }
             Kind::List => Ok(1),
             Kind::Text => {
                 self.add_entry(content.as_bytes())?;
@@ -89,7 +88,7 @@ impl Store {
         }
     }
 
-    // The client's known clock grows to this clock.
+    // The client's known clock grows to this clock. The records are searched, since a view lends them as a slice.
     fn know(&mut self, client: u64, clock: u32) -> Result<(), Trouble> {
         match self
             .clients
@@ -122,23 +121,22 @@ impl Store {
         let left = list.and_then(|l| self.ends.get(&l).copied());
         let len = self.add_content(kind, content)?;
         self.know(id.client, id.clock.saturating_add(len))?;
-        self.runs.push(RunRecord {
+        let run = RunRecord {
             id,
             len,
             kind: u8::from(kind),
             live,
             list,
             left,
-            right: None,
-            redone: None,
             entry,
-        })?;
+            ..RunRecord::default()
+        };
+        self.runs.push(run)?;
         let Some(l) = list else {
             return Ok(());
         };
         self.ends.insert(l, here)?;
-        let visible = if live && kind.is_countable() { len } else { 0 };
-        self.attach(l, left, here, visible);
+        self.attach(l, left, here, run.visible_len());
         Ok(())
     }
 
@@ -153,7 +151,7 @@ impl Store {
         }
     }
 
-    // The run that begins with this unit gets a successor.
+    // The run that begins with this unit gets a successor. The records are searched, as for clients.
     pub(crate) fn redo(&mut self, id: Id, successor: Id) -> Result<(), Trouble> {
         let run = self
             .runs

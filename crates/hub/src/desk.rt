@@ -42,21 +42,8 @@ impl<'a, P: Print, R: Reader> Desk<'a, P, R> {
             "unclip" => self.clip = None,
             "clip" => self.lay(rest)?,
             _ => match self.clip {
-                None => {
-                    let shown = Shown {
-                        rt: self.rt,
-                        reader: self.document,
-                    };
-                    self.ask_shown(&shown, word, rest)?;
-                }
-                Some(pairs) => {
-                    let clipped = pairs.over(self.document);
-                    let shown = Shown {
-                        rt: self.rt,
-                        reader: &clipped,
-                    };
-                    self.ask_shown(&shown, word, rest)?;
-                }
+                None => self.ask_shown(self.document, word, rest)?,
+                Some(pairs) => self.ask_shown(&pairs.over(self.document), word, rest)?,
             },
         }
         Ok(())
@@ -67,30 +54,24 @@ impl<'a, P: Print, R: Reader> Desk<'a, P, R> {
         let pairs = parse::pairs(self.heap, text)?;
         match Pairs::new(pairs.as_slice()) {
             Err(fault) => println!(self.rt; "{fault}")?,
-            Ok(new) => {
-                self.clip = Some(match self.clip {
-                    None => new,
-                    Some(old) => new.join(old),
-                });
-            }
+            Ok(new) => self.clip = Some(self.clip.map_or(new, |old| new.join(old))),
         }
         Ok(())
     }
 
-    // One question, on the document as it is shown now.
-    fn ask_shown<S: Reader>(
-        &mut self,
-        shown: &Shown<'_, P, S>,
-        word: &str,
-        text: &str,
-    ) -> Result<(), Trouble> {
+    // One question, on the document as this reader shows it.
+    fn ask_shown<S: Reader>(&mut self, reader: &S, word: &str, text: &str) -> Result<(), Trouble> {
+        let shown = Shown {
+            rt: self.rt,
+            reader,
+        };
         match word {
-            "mark" => self.keep(shown, text)?,
+            "mark" => self.keep(&shown, text)?,
             "where" => match self.marks.get(text) {
                 None => println!(self.rt; "{text}: no such mark")?,
                 Some(mark) => shown.print_where(text, *mark)?,
             },
-            "steps" => self.ask_steps(shown, text)?,
+            "steps" => self.ask_steps(&shown, text)?,
             "lists" => {
                 for list in 0..self.lists {
                     shown.print_list(list)?;
@@ -117,10 +98,7 @@ impl<'a, P: Print, R: Reader> Desk<'a, P, R> {
     // steps NAME COUNT
     fn ask_steps<S: Reader>(&self, shown: &Shown<'_, P, S>, text: &str) -> Result<(), Trouble> {
         let (name, count) = cut(text);
-        let count = count
-            .parse::<u32>()
-            .ok()
-            .ok_or(Trouble::Line("steps NAME COUNT"))?;
+        let count = parse::number(count, "steps NAME COUNT")?;
         match self.marks.get(name) {
             None => println!(self.rt; "{name}: no such mark")?,
             Some(mark) => shown.print_following(name, *mark, count)?,

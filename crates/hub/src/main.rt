@@ -40,14 +40,11 @@ fn told(rt: &impl Print, heap: Global, lines: &[String]) -> io::Result<Option<St
 }
 
 // Answers the questions among the lines, one after the other.
-fn answer<R: Reader>(
-    rt: &impl Print,
-    heap: Global,
-    document: &R,
-    lists: u32,
+fn answer<P: Print, R: Reader>(
+    rt: &P,
+    mut desk: Desk<'_, P, R>,
     lines: &[String],
 ) -> io::Result<()> {
-    let mut desk = Desk::new(rt, heap, document, lists);
     for (number, line) in (1u64..).zip(lines) {
         let text = line.as_str().trim();
         if text.is_empty() || text.starts_with('#') || is_told(text) {
@@ -70,9 +67,13 @@ fn main(rt: HostRuntime) -> io::Result<()> {
         return Ok(());
     };
     let view = store.view();
-    let lists = u32::try_from(view.lists.len()).unwrap_or(0);
     match Document::examine(&view) {
         Err(fault) => println!(rt; "the store is damaged: {fault}"),
-        Ok(document) => answer(&rt, heap, &document, lists, lines.as_slice()),
+        Ok(document) => {
+            // an examined document has 256 lists at most
+            let lists = u32::try_from(view.lists.len()).unwrap_or(0);
+            let desk = Desk::new(&rt, heap, &document, lists);
+            answer(&rt, desk, lines.as_slice())
+        }
     }
 }

@@ -13,6 +13,11 @@ pub(crate) fn cut(text: &str) -> (&str, &str) {
     }
 }
 
+// A number; `reason` says what was wanted in place of the word.
+pub(crate) fn number(word: &str, reason: &'static str) -> Result<u32, Trouble> {
+    word.parse::<u32>().map_err(|_| Trouble::Line(reason))
+}
+
 fn client_and_clock(word: &str) -> Option<(u64, u32)> {
     let (client, clock) = word.split_once(':')?;
     Some((client.parse().ok()?, clock.parse().ok()?))

@@ -9,10 +9,7 @@ fn run_line(store: &mut Store, text: &str) -> Result<(), Trouble> {
     let (id, text) = cut(text);
     let (kind, text) = cut(text);
     let (life, content) = cut(text);
-    let list = list
-        .parse::<u32>()
-        .ok()
-        .ok_or(Trouble::Line("a list is a number, as 0"))?;
+    let list = parse::number(list, "a list is a number, as 0")?;
     let id = parse::id(id)?;
     let kind = parse::kind(kind)?;
     let live = parse::life(life)?;

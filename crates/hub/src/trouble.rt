@@ -1,38 +1,14 @@
-use std::alloc::{AllocError, AllocFailed};
-use std::{fmt, io};
+use std::alloc::AllocError;
+use std::io;
+use thiserror::Error;
 
 // Why a line was not taken.
-#[derive(Drop)]
+#[derive(Debug, Drop, Error)]
 pub(crate) enum Trouble {
+    #[error("{0}")]
     Line(&'static str),
-    Memory,
-    Output(io::Error),
-}
-
-impl fmt::Display for Trouble {
-    fn fmt<W: fmt::Write>(&self, f: &mut fmt::Formatter<W>) -> fmt::Result {
-        match self {
-            Trouble::Line(reason) => write!(f, "{reason}"),
-            Trouble::Memory => write!(f, "out of memory"),
-            Trouble::Output(error) => write!(f, "{error}"),
-        }
-    }
-}
-
-impl From<AllocError> for Trouble {
-    fn from(_e: AllocError) -> Trouble {
-        Trouble::Memory
-    }
-}
-
-impl<T: Drop> From<AllocFailed<T>> for Trouble {
-    fn from(_e: AllocFailed<T>) -> Trouble {
-        Trouble::Memory
-    }
-}
-
-impl From<io::Error> for Trouble {
-    fn from(error: io::Error) -> Trouble {
-        Trouble::Output(error)
-    }
+    #[error("out of memory")]
+    Memory(#[from(alloc)] AllocError),
+    #[error("{0}")]
+    Output(#[from] io::Error),
 }

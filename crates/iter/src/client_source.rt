@@ -6,6 +6,7 @@ use crate::source::Source;
 use reader::reader::Reader;
 
 // A client's listed runs, in the order of their clocks.
+#[derive(Drop)]
 pub struct ClientSource<R: Reader> {
     reader: R,
     client: u64,
@@ -24,16 +25,11 @@ impl<R: Reader> ClientSource<R> {
         }
     }
 
-    // Gives the reader back. Each field is named, since a reader need not be `Drop`.
+    // Gives the reader back.
     pub fn close(self) -> R
         ensures { result ≡ self.reader }
     {
-        let ClientSource {
-            reader,
-            client: _,
-            clock: _,
-        } = self;
-        reader
+        self.reader
     }
 }
 

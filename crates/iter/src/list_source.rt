@@ -9,6 +9,7 @@ use block::fault::Fault;
 use reader::reader::Reader;
 
 // The runs of a list, from left to right.
+#[derive(Drop)]
 pub struct ListSource<R: Reader> {
     reader: R,
     at: Option<R::Place>,
@@ -27,12 +28,11 @@ impl<R: Reader> ListSource<R> {
         }
     }
 
-    // Gives the reader back. Each field is named, since a reader need not be `Drop`.
+    // Gives the reader back.
     pub fn close(self) -> R
         ensures { result ≡ self.reader }
     {
-        let ListSource { reader, at: _ } = self;
-        reader
+        self.reader
     }
 }
 

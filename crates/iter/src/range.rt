@@ -15,6 +15,7 @@ use block::fault::{Code, Fault, Part, Spot};
 use sticky_index::index::StickyIndex;
 
 // The slices of a source's runs between two marks, one after another.
+#[derive(Drop)]
 pub struct RangeIter<S: Source> {
     iter: S,
     start: StickyIndex,
@@ -37,17 +38,11 @@ impl<S: Source> RangeIter<S> {
         }
     }
 
-    // Gives the source back. Each field is named, since a source need not be `Drop`.
+    // Gives the source back.
     pub fn close(self) -> S
         ensures { result ≡ self.iter }
     {
-        let RangeIter {
-            iter,
-            start: _,
-            end: _,
-            state: _,
-        } = self;
-        iter
+        self.iter
     }
 
     // What comes of the next run, and how far the range has come then.

@@ -94,6 +94,7 @@ impl<P: Copy> ItemSlice<P> {
     }
 
     // Takes `count` units off the start. Where no unit would be left it refuses, and nothing changes.
+    // The answer is whether units were taken: there is nothing else to tell, so it is a `bool`.
     // The two trims write different ends: one function for both would take the end and match on it.
     pub fn trim_start(&mut self, count: u32) -> bool
         ensures trimmed { result ≡ nat_lt count (self.old.end - self.old.start + 1) }

@@ -17,7 +17,7 @@ pub trait Slices {
     ghost left: { Self → ℕ };
 
     // The next slice, or the refusal; none at the end, and from then on.
-    // By the project's rule a walk is a step of its own name, and no `Iterator`.
+    // No `Iterator`: which slices are still to come is only a relation, which generic code asks for by `told`.
     fn next(&mut self) -> Result<Option<ItemSlice<Self::Place>>, Fault>
         ensures told { (c : Course Self.Place) → coming self.old c → Told coming c result self.new }
         ensures fewer { IfOk result (λ next. IfSome next (λ _. left self.new < left self.old)) };

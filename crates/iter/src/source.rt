@@ -19,7 +19,8 @@ pub trait Source {
     ghost left: { Self → ℕ };
 
     // The next run; none exactly if none is still to come, and then nothing changes.
-    // By the project's rule a walk is a step of its own name, and no `Iterator`.
+    // It is no `Iterator`: what is still to come is said by a relation, and generic code asks for it
+    // through the trait's own clauses.
     fn next(&mut self) -> Option<Run<Self::Place>>
         ensures taken { (ws : List (Run Self.Place)) → ahead self.old ws → Taken ahead self.old ws result self.new }
         ensures given { Given ahead certain self.old result self.new }

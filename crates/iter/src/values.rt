@@ -10,6 +10,7 @@ use block::slot::Slot;
 use reader::reader::Reader;
 
 // The values of the visible units of slices, one after another.
+#[derive(Drop)]
 pub struct Values<R: Reader, I: Slices<Place = R::Place>> {
     reader: R,
     iter: I,
@@ -28,7 +29,7 @@ impl<R: Reader, I: Slices<Place = R::Place>> Values<R, I> {
     }
 
     // The value of the next visible unit; none at the end. Where the slices are refused, so is this.
-    // By the project's rule a walk is a step of its own name, and no `Iterator`.
+    // No `Iterator`: which slices are still to come is only a relation, and so is which values.
     pub fn next(&mut self) -> Result<Option<Slot>, Fault>
         ensures kept { self.new.reader ≡ self.old.reader }
         ensures next { (c : Course R.Place) → I.Slices.coming self.old.iter c → Yields (R.Reader.meaning self.old.reader) (R.Reader.stretch self.old.reader) (R.Reader.shown self.old.reader) I.Slices.coming self.old.current c result self.new.iter self.new.current }
@@ -45,15 +46,10 @@ impl<R: Reader, I: Slices<Place = R::Place>> Values<R, I> {
         }
     }
 
-    // Gives the reader and the slices back. Each field is named, since a reader need not be `Drop`.
+    // Gives the reader and the slices back.
     pub fn close(self) -> (R, I)
         ensures { (result.0 ≡ self.reader) × (result.1 ≡ self.iter) }
     {
-        let Values {
-            reader,
-            iter,
-            current: _,
-        } = self;
-        (reader, iter)
+        (self.reader, self.iter)
     }
 }

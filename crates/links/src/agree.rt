@@ -5,7 +5,7 @@ ghost use Rattle.links.specs.Links.{is_client_at, is_recorded, run_agrees_at, li
 
 use crate::holders::{holder_agrees, holds_one};
 use crate::lengths::{has_length, last_end};
-use crate::walks::{is_reached, left_agrees, right_agrees, start_agrees};
+use crate::walks::{is_reached, neighbour_agrees, start_agrees};
 use store::records::{ClientRecord, View};
 
 fn is_recorded(view: &View<'_>, client: u64) -> bool
@@ -18,8 +18,8 @@ fn run_agrees(view: &View<'_>, i: usize) -> bool
     ensures { result ≡ run_agrees_at (held view.now) i }
 {
     let run = view.run(i);
-    left_agrees(view, i, run.left)
-        && right_agrees(view, i, run.right)
+    neighbour_agrees(view, i, run.left, |other| other.right)
+        && neighbour_agrees(view, i, run.right, |other| other.left)
         && is_reached(view, i, run.list)
         && holds_one(view, run)
         && is_recorded(view, run.id.client)

@@ -7,11 +7,10 @@ use block::ids::Id;
 use block::kind::Kind;
 use store::records::{RunRecord, View};
 
-// The record has the raw byte, since a damaged store holds any.
 fn is_list(run: RunRecord) -> bool
     ensures { result ≡ is_list run }
 {
-    run.kind == u8::from(Kind::List)
+    run.kind() == Kind::List
 }
 
 // The first list that a unit holds.
@@ -31,7 +30,7 @@ pub(crate) fn lists_held(view: &View<'_>, id: Id) -> usize
         .count()
 }
 
-// Whether a unit of kind 7 holds just one list.
+// Whether a unit of kind `List` holds just one list.
 pub(crate) fn holds_one(view: &View<'_>, run: RunRecord) -> bool
     ensures { result ≡ holds_one (held view.now) run }
 {
@@ -44,11 +43,11 @@ fn some_holds(view: &View<'_>, id: Id) -> bool
     view.runs.iter().any(|run| is_list(*run) && run.id == id)
 }
 
-// Whether a list's holder is a unit of kind 7.
+// Whether a list's holder is a unit of kind `List`.
 pub(crate) fn holder_agrees(view: &View<'_>, holder: Option<Id>) -> bool
     ensures { result ≡ holder_agrees (held view.now) holder }
 {
-    // not `is_none_or`: its proof did not close, nothing being known there of the closure's call
+    // not `is_none_or`: with a closure over the view its proof did not close
     let Some(id) = holder else {
         return true;
     };

@@ -1,27 +1,18 @@
 ghost use Rattle.std.specs.Prelude.{◌≡◌, ℕ, ◌<◌, length, ◌==◌};
 ghost use Rattle.store.specs.Records.{held};
-ghost use Rattle.links.specs.Lengths.{weight, share, visible_sum, last_end};
+ghost use Rattle.links.specs.Lengths.{share, visible_sum, last_end};
 
 use crate::walks::is;
-use store::clocks::end_of;
-use store::kinds::kind_of;
 use store::records::{RunRecord, View};
-
-// How many visible units a run has.
-pub fn weight(run: RunRecord) -> u32
-    ensures { result ≡ weight run }
-{
-    if run.live && kind_of(run.kind).is_countable() {
-        run.len
-    } else {
-        0
-    }
-}
 
 fn share(l: usize, run: RunRecord) -> u32
     ensures { result ≡ share l run }
 {
-    if is(run.list, l) { weight(run) } else { 0 }
+    if is(run.list, l) {
+        run.visible_len()
+    } else {
+        0
+    }
 }
 
 // Whether the runs of a list have just so many visible units.
@@ -43,7 +34,7 @@ pub(crate) fn last_end(view: &View<'_>, client: u64) -> u64
     view.runs
         .iter()
         .filter(|run| run.id.client == client)
-        .map(|run| end_of(*run))
+        .map(|run| run.end())
         .max()
         .unwrap_or(0)
 }

@@ -1,4 +1,3 @@
-ghost use Rattle.std.specs.Prelude.{min};
 ghost use Rattle.planner.specs.Steps.{Follows};
 
 use block::fault::Fault;
@@ -25,9 +24,8 @@ pub fn steps_from<R: Reader>(
 {
     let at = mark.get_offset(reader)?;
     let mut cursor = BlockIter::open(reader, at.list).map_err(|(_, fault)| fault)?;
-    let left = cursor.len().saturating_sub(at.index) as usize;
-    let read = slots.len().min(left);
     cursor.try_forward(at.index)?;
+    let read = slots.len().min(cursor.left() as usize);
     cursor.slice(&mut slots[..read])?;
     Ok(Steps { at, read })
 }

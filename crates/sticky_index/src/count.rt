@@ -20,7 +20,7 @@ fn is_upheld<R: Reader>(reader: &R, list: u32) -> bool
     }
 }
 
-// How many visible units the run at a place has.
+// How many visible units the run at a place has: one expression, here and in the cursor.
 fn visible_at<R: Reader>(reader: &R, place: R::Place) -> u32
     ensures { result ≡ run_adds (R.Reader.meaning reader.now) (R.Reader.stretch reader.now place) }
 {
@@ -47,8 +47,11 @@ fn reached(run: Description, offset: u32, assoc: Assoc) -> u32
     requires { offset < run.len }
     ensures { result ≡ (if run.live && is_counted run.kind then reach assoc offset else 0) }
 {
+    // A mark on a hidden unit counts nothing of its own run.
+    if !run.is_visible() {
+        return 0;
+    }
     match assoc {
-        _ if !run.is_visible() => 0,
         Assoc::Before => offset + 1,
         Assoc::After => offset,
     }
@@ -60,18 +63,12 @@ pub(crate) fn index_at<R: Reader>(reader: &R, seat: Seat<R::Place>, assoc: Assoc
     ensures { Indexed (R.Reader.meaning reader.now) (R.Reader.stretch reader.now) seat assoc result }
 {
     let list = seat.run.list;
-    if !is_upheld(reader, list) {
-        return Offset {
-            list,
-            index: 0,
-            assoc,
-        };
-    }
-    let n = visible_before(reader, seat.place);
-    let here = reached(seat.run, seat.offset, assoc);
-    Offset {
-        list,
-        index: n + here,
-        assoc,
-    }
+    let index = if is_upheld(reader, list) {
+        let n = visible_before(reader, seat.place);
+        let here = reached(seat.run, seat.offset, assoc);
+        n + here
+    } else {
+        0
+    };
+    Offset { list, index, assoc }
 }

@@ -42,7 +42,7 @@ fn list_offset<R: Reader>(reader: &R, list: u32, assoc: Assoc) -> Result<Offset,
     Ok(Offset { list, index, assoc })
 }
 
-// The list that a unit holds; only a unit of kind 7 holds one.
+// The list that a unit holds; only a unit of kind `List` holds one.
 fn held_list<R: Reader>(reader: &R, seat: Seat<R::Place>) -> Option<u32>
     requires { Seated (R.Reader.meaning reader.now) (R.Reader.stretch reader.now) seat }
     ensures { Holds (R.Reader.meaning reader.now) (R.Reader.stretch reader.now) seat result }

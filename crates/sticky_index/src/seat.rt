@@ -36,8 +36,8 @@ pub(crate) fn track<R: Reader>(reader: &R, id: Id) -> Result<Seat<R::Place>, Fau
     ensures { Leads (R.Reader.meaning reader.now) (R.Reader.stretch reader.now) (follow (R.Reader.meaning reader.now) 64 id) result }
 {
     let mut seat = look(reader, id)?;
-    // So many turns at most; no index.
-    for i in 0..64u32 {
+    // 64 successors at most.
+    for _ in 0..64u32 {
         let Some(next) = seat.run.redone else {
             return Ok(seat);
         };

@@ -1,21 +1,14 @@
 ghost use Rattle.std.specs.Prelude.{◌≡◌, ℕ, ◌<◌, length};
-ghost use Rattle.store.specs.Clocks.{end_of, is_clear, is_clear_at, comes_after, comes_after_at, run_follows_at};
+ghost use Rattle.store.specs.Clocks.{is_clear, is_clear_at, comes_after, comes_after_at, run_follows_at};
 ghost use Rattle.store.specs.First.{first_bad, all_pass, some_pass};
 ghost use Rattle.store.specs.Records.{held};
 
 use crate::records::{RunRecord, View};
 
-// The clock after a run's last unit.
-pub fn end_of(run: RunRecord) -> u64
-    ensures { result ≡ end_of run }
-{
-    run.id.clock as u64 + run.len as u64
-}
-
 fn is_clear(a: RunRecord, b: RunRecord) -> bool
     ensures { result ≡ is_clear a b }
 {
-    a.id.client != b.id.client || end_of(a) <= b.id.clock as u64 || end_of(b) <= a.id.clock as u64
+    a.id.client != b.id.client || a.end() <= b.id.clock as u64 || b.end() <= a.id.clock as u64
 }
 
 // Whether run i shares no unit with any other.
@@ -32,7 +25,7 @@ fn is_clear_of_all(view: &View<'_>, i: usize) -> bool
 fn comes_after(a: RunRecord, b: RunRecord) -> bool
     ensures { result ≡ comes_after a b }
 {
-    a.id.client == b.id.client && end_of(b) == a.id.clock as u64
+    a.id.client == b.id.client && b.end() == a.id.clock as u64
 }
 
 // Whether run i begins where some run ends.

@@ -1,14 +1,7 @@
 ghost use Rattle.std.specs.Prelude.{◌≡◌};
-ghost use Rattle.store.specs.Kinds.{kind_of, stands_apart, is_single, entries_of};
+ghost use Rattle.store.specs.Kinds.{stands_apart, is_single, entries_of};
 
 use block::kind::Kind;
-
-// The kind with this number; the last one for a number past all kinds.
-pub fn kind_of(number: u8) -> Kind
-    ensures { result ≡ kind_of number }
-{
-    Kind::try_from(number).unwrap_or(Kind::Skip)
-}
 
 // Whether runs of this kind belong to no list. Here and below all kinds are written out, and not by
 // `matches!`, so that a new kind has to be placed.

@@ -1,11 +1,12 @@
-ghost use Rattle.std.specs.Prelude.{◌≡◌, ℕ, ◌+◌, ◌<◌, ◌≤◌, length};
+ghost use Rattle.std.specs.Prelude.{◌≡◌, ℕ, ◌+◌, ◌<◌, ◌≤◌, length, nat_le};
 ghost use Rattle.store.specs.First.{first_bad, all_pass};
 ghost use Rattle.store.specs.Ranges.{in_use, id_fits, numbers_fit, names_fit, entry_fits, is_placed, length_fits, run_fits, run_fits_at, list_fits, list_fits_at, other_client, client_fits_at, entry_inside, entry_fits_at};
 ghost use Rattle.store.specs.Records.{held};
 
-use crate::kinds::{entries_of, is_single, kind_of, stands_apart};
+use crate::kinds::{is_single, stands_apart};
 use crate::records::{ClientRecord, EntryRecord, ListRecord, RunRecord, View};
 use block::ids::{Id, is_client};
+use block::kind::Kind;
 
 // The greatest clock that may be known.
 const LAST_CLOCK: u32 = 0x7FFF_FFFF;
@@ -22,11 +23,17 @@ fn id_fits(id: Option<Id>) -> bool
     id.is_none_or(|id| is_client(id.client))
 }
 
+fn has_kind(run: RunRecord) -> bool
+    ensures { result ≡ nat_le run.kind 10 }
+{
+    Kind::try_from(run.kind).is_ok()
+}
+
 fn numbers_fit(run: RunRecord) -> bool
     ensures { result ≡ numbers_fit run }
 {
     is_client(run.id.client)
-        && run.kind <= 10
+        && has_kind(run)
         && 0 < run.len
         && run.id.clock <= LAST_CLOCK
         && run.len <= LAST_CLOCK - run.id.clock
@@ -44,7 +51,7 @@ fn names_fit(view: &View<'_>, run: RunRecord) -> bool
 fn entry_fits(view: &View<'_>, run: RunRecord) -> bool
     ensures { result ≡ entry_fits (held view.now) run }
 {
-    if entries_of(kind_of(run.kind), run.len) == 0 {
+    if run.entries() == 0 {
         run.entry as usize <= view.entries.len()
     } else {
         (run.entry as usize) < view.entries.len()
@@ -54,7 +61,7 @@ fn entry_fits(view: &View<'_>, run: RunRecord) -> bool
 fn is_placed(run: RunRecord) -> bool
     ensures { result ≡ is_placed run }
 {
-    if stands_apart(kind_of(run.kind)) {
+    if stands_apart(run.kind()) {
         run.list.is_none() && run.left.is_none() && run.right.is_none()
     } else {
         run.list.is_some()
@@ -64,7 +71,7 @@ fn is_placed(run: RunRecord) -> bool
 fn length_fits(run: RunRecord) -> bool
     ensures { result ≡ length_fits run }
 {
-    !is_single(kind_of(run.kind)) || run.len == 1
+    !is_single(run.kind()) || run.len == 1
 }
 
 fn run_fits(view: &View<'_>, run: RunRecord) -> bool

@@ -1,9 +1,15 @@
-ghost use Rattle.std.specs.Prelude.{◌≡◌};
+ghost use Rattle.std.specs.Prelude.{◌≡◌, ◌&&◌, if◌then◌else◌};
+ghost use Rattle.block.specs.Kinds.{is_counted};
+ghost use Rattle.store.specs.Clocks.{end_of};
+ghost use Rattle.store.specs.Kinds.{kind_of, entries_of};
 ghost use Rattle.store.specs.Records.{held, run_at, list_at, entry_at, bytes_of};
 
+use crate::kinds::entries_of;
 use block::ids::Id;
+use block::kind::Kind;
 
-// A run of units, as the store keeps it. Runs, lists and entries are named by their numbers.
+// A run of units, as the store keeps it. Runs, lists and entries are named by their numbers, and not by
+// references, since the tables are lent and may be damaged.
 #[derive(Clone, Copy, Debug, Default, PartialEq, Eq)]
 pub struct RunRecord {
     pub id: Id,
@@ -18,6 +24,41 @@ pub struct RunRecord {
     pub redone: Option<Id>,
     // the first entry of the content
     pub entry: u32,
+}
+
+impl RunRecord {
+    // The run's kind; the last one for a number past all kinds.
+    pub fn kind(self) -> Kind
+        ensures { result ≡ kind_of self.kind }
+    {
+        Kind::try_from(self.kind).unwrap_or(Kind::Skip)
+    }
+
+    // How many entries of the content it has.
+    pub fn entries(self) -> u32
+        ensures { result ≡ entries_of (kind_of self.kind) self.len }
+    {
+        entries_of(self.kind(), self.len)
+    }
+
+    // How many visible units it has. `Description` says the same of a run that was described, whose kind is
+    // a `Kind` already.
+    pub fn visible_len(self) -> u32
+        ensures { result ≡ (if self.live && is_counted (kind_of self.kind) then self.len else 0) }
+    {
+        if self.live && self.kind().is_countable() {
+            self.len
+        } else {
+            0
+        }
+    }
+
+    // The clock after its last unit.
+    pub fn end(self) -> u64
+        ensures { result ≡ end_of self }
+    {
+        self.id.clock as u64 + self.len as u64
+    }
 }
 
 // A list: its leftmost run, the unit that holds it (none: a root), and how many visible units it has.

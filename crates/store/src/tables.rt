@@ -30,7 +30,8 @@ pub fn counts_fit(view: &View<'_>) -> bool
         && view.bytes.len() <= BYTES
 }
 
-// A table with room for its records, and how many of them are in use.
+// A table with room for its records, and how many of them are in use. The count stands beside the lent
+// records since there is room behind them for new ones: memory is fixed, and there is no heap.
 pub struct Table<'a, T> {
     pub records: &'a mut [T],
     pub count: u32,

@@ -39,8 +39,9 @@ pub(crate) fn measure(planes: Planes, text: &[u8], at: usize) -> Result<usize, u
     }
 }
 
-// The length, one to four bytes, of the character that begins at this offset; or the offset of the first byte that
-// no character has there, which is the text's length where the text ends before the character does.
+// The length, one to four bytes, of the character that begins at this offset. The number in an `Err`, and all that
+// it has to tell, is the offset of the first byte that no character has there, which is the text's length where the
+// text ends before the character does.
 pub fn length_at(text: &[u8], at: usize) -> Result<usize, usize>
     ensures value { result ≡ character_at utf8_char text.now at }
     ensures means { Measured utf8_char text.now at result }

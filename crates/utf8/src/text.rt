@@ -18,7 +18,7 @@ fn count_in(planes: Planes, text: &[u8]) -> Result<usize, usize>
 {
     let mut count = 0;
     let mut at = 0;
-    // Each character says how far the next one is, so no range of offsets is gone over.
+    // A `while`, since each character says how far the next one is.
     while at < text.len() {
         at += measure(planes, text, at)?;
         count += 1;

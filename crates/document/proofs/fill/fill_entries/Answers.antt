@@ -5,4 +5,4 @@ use Rattle.document.proofs.Fills.{filled_by}
 use Rattle.document.proofs.fill.fill_entries.Goals as goal
 
 pub returns : goal.returns
-returns c = filled_by _ (λ k. entry_slot (held c.args.view.now) c.args.kind (c.args.first + k)) c.args.n _ _ c.fill_with.ensures (λ k v lt p. search rules)
+returns c = filled_by _ (λ k. entry_slot (held c.args.view.now) c.args.kind (c.args.first + k)) _ _ c.fill_with.ensures (λ k v lt p. search rules)

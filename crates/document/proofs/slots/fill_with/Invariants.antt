@@ -2,4 +2,4 @@ use Rattle.document.specs.Slots.{Written}
 use Rattle.document.proofs.slots.fill_with.Given as goal
 
 abbrev pub invariant-loop-k : goal.invariant-loop-k
-invariant-loop-k g l = Written (goal.F-post g l.slot) l.k l.initial.place-items l.place-items
+invariant-loop-k g l = Written (goal.F-post g l.slot) l.k l.initial.slots l.slots

@@ -4,4 +4,4 @@ use Rattle.document.proofs.Fills.{filled_by}
 use Rattle.document.proofs.text.fill_bytes.Goals as goal
 
 pub returns : goal.returns
-returns c = filled_by _ (byte_slot c.args.start) c.args.n _ _ c.fill_with.ensures (λ k v lt p. search rules)
+returns c = filled_by _ (byte_slot c.args.start) _ _ c.fill_with.ensures (λ k v lt p. search rules)

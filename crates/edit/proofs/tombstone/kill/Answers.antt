@@ -13,7 +13,7 @@ pub bounds-tables-l : goal.bounds-tables-l
 bounds-tables-l c = (can_lower (all_of c.args.tables.now) c.requires.examined c.args.i c.requires.within c.in-Some.l c.in-Some.is).0
 
 pub overflow_sub-tables : goal.overflow_sub-tables
-overflow_sub-tables c = let q = can_lower (all_of c.args.tables.now) c.requires.examined c.args.i c.requires.within c.in-Some.l c.in-Some.is in let h = q.1 in let w = c.weight.ensures in omega (arith, h, w)
+overflow_sub-tables c = let q = can_lower (all_of c.args.tables.now) c.requires.examined c.args.i c.requires.within c.in-Some.l c.in-Some.is in let h = q.1 in let w = c.visible_len.ensures in omega (arith, h, w)
 
 pub bounds-tables-l-in-Some : goal.bounds-tables-l-in-Some
 bounds-tables-l-in-Some c = (can_lower (all_of c.args.tables.now) c.requires.examined c.args.i c.requires.within c.in-Some.l c.in-Some.is).0

@@ -12,8 +12,8 @@ returns-in_err-seat g c =
     let p = err_from_is_err_and c.from_residual.result c.from_residual.ensures.1 in
     rw (p.1, p.2) (turn_lost _ _ (g.R.Reader.lawful s) (g.R.Reader.settled s) 64 c.args.id _ c.in_err-seat.ensures)
 
-pub loop-i-init : goal.loop-i-init
-loop-i-init g c =
+pub loop-init : goal.loop-init
+loop-init g c =
     let s = c.args.reader.now in
     let m = g.R.Reader.meaning s in
     let st = g.R.Reader.stretch s in
@@ -26,8 +26,8 @@ returns-in_default g c =
     let s = c.args.reader.now in
     let law = g.R.Reader.lawful s in
     let settled = g.R.Reader.settled s in
-    let far = so_far _ _ law settled c.args.id c.in_ok-seat.seat _ _ c.in_ok-seat.ensures c.loop-i.invariant.1 in
-    let r = turn_done _ _ law settled (64 - c.loop-i.i) c.loop-i.seat c.loop-i.invariant.0 c.in_default.is in
+    let far = so_far _ _ law settled c.args.id c.in_ok-seat.seat _ _ c.in_ok-seat.ensures c.loop.invariant.1 in
+    let r = turn_done _ _ law settled (64 - c.loop.counter) c.loop.seat c.loop.invariant.0 c.in_default.is in
     (r.0, far ∙ r.1, r.2)
 
 pub returns-in_err-seat-2 : goal.returns-in_err-seat-2
@@ -36,15 +36,15 @@ returns-in_err-seat-2 g c =
     let m = g.R.Reader.meaning s in
     let law = g.R.Reader.lawful s in
     let settled = g.R.Reader.settled s in
-    let far = so_far _ _ law settled c.args.id c.in_ok-seat.seat _ _ c.in_ok-seat.ensures c.loop-i.invariant.1 in
-    let n : suc (64 - (c.loop-i.i + 1)) ≡ 64 - c.loop-i.i = omega arith in
-    let on = turn_on _ _ law settled (64 - (c.loop-i.i + 1)) c.loop-i.seat c.in-Some.next c.loop-i.invariant.0 c.in-Some.is ∙ ap (λ (k : ℕ). follow m k c.loop-i.seat.id) n in
-    let lost = turn_lost _ _ law settled (64 - (c.loop-i.i + 1)) c.in-Some.next _ c.in_err-seat-2.ensures in
+    let far = so_far _ _ law settled c.args.id c.in_ok-seat.seat _ _ c.in_ok-seat.ensures c.loop.invariant.1 in
+    let n : suc (64 - (c.loop.counter + 1)) ≡ 64 - c.loop.counter = omega arith in
+    let on = turn_on _ _ law settled (64 - (c.loop.counter + 1)) c.loop.seat c.in-Some.next c.loop.invariant.0 c.in-Some.is ∙ ap (λ (k : ℕ). follow m k c.loop.seat.id) n in
+    let lost = turn_lost _ _ law settled (64 - (c.loop.counter + 1)) c.in-Some.next _ c.in_err-seat-2.ensures in
     let p = err_from_is_err_and c.from_residual-in_err-seat-2.result c.from_residual-in_err-seat-2.ensures.1 in
     rw (p.1, p.2) (far ∙ sym on ∙ lost)
 
-pub loop-i-preserved : goal.loop-i-preserved
-loop-i-preserved g c =
+pub loop-preserved : goal.loop-preserved
+loop-preserved g c =
     let s = c.args.reader.now in
     let m = g.R.Reader.meaning s in
     let st = g.R.Reader.stretch s in
@@ -53,17 +53,17 @@ loop-i-preserved g c =
     let seat = c.in_ok-seat-2.seat in
     let here = c.in_ok-seat-2.ensures in
     let same : seat.id ≡ c.in-Some.next = seat_id m st law settled c.in-Some.next seat here in
-    let n : suc (64 - (c.loop-i.i + 1)) ≡ 64 - c.loop-i.i = omega arith in
-    let on = turn_on _ _ law settled (64 - (c.loop-i.i + 1)) c.loop-i.seat c.in-Some.next c.loop-i.invariant.0 c.in-Some.is ∙ ap (λ (k : ℕ). follow m k c.loop-i.seat.id) n in
-    (subst (λ (x : Id). Looked m st x (Ok seat)) (sym same) here, ap (follow m (64 - (c.loop-i.i + 1))) same ∙ on ∙ c.loop-i.invariant.1)
+    let n : suc (64 - (c.loop.counter + 1)) ≡ 64 - c.loop.counter = omega arith in
+    let on = turn_on _ _ law settled (64 - (c.loop.counter + 1)) c.loop.seat c.in-Some.next c.loop.invariant.0 c.in-Some.is ∙ ap (λ (k : ℕ). follow m k c.loop.seat.id) n in
+    (subst (λ (x : Id). Looked m st x (Ok seat)) (sym same) here, ap (follow m (64 - (c.loop.counter + 1))) same ∙ on ∙ c.loop.invariant.1)
 
 pub returns-in-None : goal.returns-in-None
 returns-in-None g c =
     let s = c.args.reader.now in
     let law = g.R.Reader.lawful s in
     let settled = g.R.Reader.settled s in
-    let far = so_far _ _ law settled c.args.id c.in_ok-seat.seat _ _ c.in_ok-seat.ensures c.loop-i.invariant.1 in
-    let r = turn_done _ _ law settled (64 - c.loop-i.i) c.loop-i.seat c.loop-i.invariant.0 c.in-None.is in
+    let far = so_far _ _ law settled c.args.id c.in_ok-seat.seat _ _ c.in_ok-seat.ensures c.loop.invariant.1 in
+    let r = turn_done _ _ law settled (64 - c.loop.counter) c.loop.seat c.loop.invariant.0 c.in-None.is in
     (r.0, far ∙ r.1, r.2)
 
 pub returns-in-Some-redone : goal.returns-in-Some-redone
@@ -72,7 +72,7 @@ returns-in-Some-redone g c =
     let m = g.R.Reader.meaning s in
     let law = g.R.Reader.lawful s in
     let settled = g.R.Reader.settled s in
-    let far = so_far _ _ law settled c.args.id c.in_ok-seat.seat _ _ c.in_ok-seat.ensures c.loop-i.invariant.1 in
-    let n : 64 - c.loop-i.i ≡ 0 = omega arith in
-    let over = turn_over _ _ law settled c.loop-i.seat c.in-Some-redone.field-0 c.loop-i.invariant.0 c.in-Some-redone.is in
-    far ∙ ap (λ (k : ℕ). follow m k c.loop-i.seat.id) n ∙ over ∙ ap Err (sym c.new.ensures)
+    let far = so_far _ _ law settled c.args.id c.in_ok-seat.seat _ _ c.in_ok-seat.ensures c.loop.invariant.1 in
+    let n : 64 - c.loop.counter ≡ 0 = omega arith in
+    let over = turn_over _ _ law settled c.loop.seat c.in-Some-redone.field-0 c.loop.invariant.0 c.in-Some-redone.is in
+    far ∙ ap (λ (k : ℕ). follow m k c.loop.seat.id) n ∙ over ∙ ap Err (sym c.new.ensures)

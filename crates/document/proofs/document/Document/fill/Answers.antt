@@ -16,6 +16,6 @@ overflow_cast-l c = omega (arith, found_below _ _ c.in-Some.l c.in-Some.ensures 
 pub returns-in_default : goal.returns-in_default
 returns-in_default c =
     absurd
-    (holds_some (held c.args.self.now.view.now) (passing_from (held c.args.self.now.view.now) c.args.self.now.shape) c.args.place (in_use (held c.args.self.now.view.now) c.args.place c.args.offset c.args.n _ c.requires c.if-n-eq0.false)
+    (holds_some (held c.args.self.now.view.now) (passing_from (held c.args.self.now.view.now) c.args.self.now.shape) c.args.place (in_use (held c.args.self.now.view.now) c.args.place c.args.offset (length c.args.slots.now) _ c.requires (λ z. grind (arith, z, c.is_empty.ensures, c.if-is_empty.false)))
     (sym (c.in-List.ensures ∙ ap (λ (r : RunRecord). kind_of r.kind) c.run-run.ensures))
     (ap (λ (r : RunRecord). first_bad (failing (held_by_at (held c.args.self.now.view.now) r.id)) (length (held c.args.self.now.view.now).lists)) (sym c.run-run.ensures) ∙ sym c.in_default.ensures))

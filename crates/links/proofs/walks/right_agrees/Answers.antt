@@ -1,6 +1,0 @@
-use Rattle.std.proofs.Common.{rules, tests}
-use Rattle.store.specs.declared.records.RunRecord.{RunRecord}
-use Rattle.links.proofs.walks.right_agrees.Goals as goal
-
-pub returns : goal.returns
-returns c = c.neighbour_agrees.ensures (λ (run : RunRecord). run.left) (λ run at p. search (rules, tests))

@@ -1,6 +1,0 @@
-use Rattle.std.proofs.Common.{◌∙◌}
-use Rattle.store.proofs.Numbers.{kind_from}
-use Rattle.store.proofs.kinds.kind_of.Goals as goal
-
-pub returns : goal.returns
-returns c = c.unwrap_or.ensures ∙ kind_from c.args.number _ c.try_from.ensures
