@@ -1,25 +1,18 @@
 -- The runs of a list from left to right.
-use Rattle.std.proofs.Common.{◌≡◌, ℕ, ◌+◌, ◌-◌, ◌^◌, ◌<◌, ◌≤◌, List, [], ◌∷◌, Some, None, Option, sym, refl, ap, ◌∙◌, subst, arith}
-use mathlib.Core.HLevel.{is_prop→PathP}
-use Rattle.std.specs.Coded.{le_prop}
+use Rattle.std.proofs.Common.{◌≡◌, ℕ, ◌+◌, ◌-◌, ◌<◌, ◌≤◌, List, [], ◌∷◌, Some, None, Option, sym, refl, ap, ◌∙◌, subst, arith}
 use Rattle.block.specs.Units.{Meaning, Lawful, Stretch, RunOf, unit_at}
 use Rattle.reader.specs.declared.reader.Description.{Description}
 use Rattle.reader.specs.Answers.{Onward, Described, described}
 use Rattle.iter.specs.declared.run.Run.{Run}
+use Rattle.iter.specs.Bare.{Bare, bare}
 use Rattle.iter.specs.Runs.{RunsFrom, FromHere, FromStretch, Taken}
 
 pub described_some : (m : Meaning) (o : Option Stretch) (d : Description) → Described m o (Some d) → (t : Stretch) × (o ≡ Some t) × (d ≡ described m t)
 described_some m None d h = let z : ◌≡◌ {A = ℕ} 0 1 = cc in absurd (omega arith)
 described_some m (Some t) d h = (t, refl, cc)
 
-pub same_run : {P : Type 0} (v w : Run P) → v.place ≡ w.place → v.about ≡ w.about → v ≡ w
-same_run v w place about = λ i. record {
-  place = place i;
-  about = about i;
-  short = is_prop→PathP (λ j. (about j).len < 2 ^ 32) (λ j. le_prop) v.short w.short i;
-  some = is_prop→PathP (λ j. 0 < (about j).len) (λ j. le_prop) v.some w.some i;
-  fits = is_prop→PathP (λ j. (about j).id.clock + (about j).len ≤ 2 ^ 32) (λ j. le_prop) v.fits w.fits i;
-}
+pub same_bare : {P : Type 0} (v w : Bare P) → v.place ≡ w.place → v.about ≡ w.about → v ≡ w
+same_bare v w place about = ap (λ (x : _). record { place = x; about = v.about }) place ∙ ap (λ (x : Description). record { place = w.place; about = x }) about
 
 module _ {P : Type 0} (m : Meaning) (st : P → Option Stretch) (settled : (p : P) (t : Stretch) → st p ≡ Some t → RunOf m t) where
   -- a run's clocks are known
@@ -34,26 +27,26 @@ module _ {P : Type 0} (m : Meaning) (st : P → Option Stretch) (settled : (p : 
       subst (λ (x : Description). (0 < x.len) × (x.id.clock + x.len ≤ m.known x.id.client)) (sym q) (run.some, omega (arith, run.some))
 
   -- what stands at an index, and the runs from there on
-  pub onward_here : (l i : ℕ) (q : Option P) (ws : List (Run P)) → Onward m st l i q → RunsFrom m st l i ws → FromHere m st q ws
+  pub onward_here : (l i : ℕ) (q : Option P) (ws : List (Bare P)) → Onward m st l i q → RunsFrom m st l i ws → FromHere m st q ws
   onward_here l i None [] h r = refl
   onward_here l i None (w ∷ ws) h r =
       let run = settled w.place _ r.0.1 in
       absurd (omega (arith, run.some, run.within))
   onward_here l i (Some q) ws h r = subst (λ (o : Option Stretch). FromStretch m st o ws) (sym h.1) r
 
-  pub here_onward : (l i : ℕ) (q : Option P) (ws : List (Run P)) → Onward m st l i q → FromHere m st q ws → RunsFrom m st l i ws
-  here_onward l i None ws h r = subst (λ (xs : List (Run P)). RunsFrom m st l i xs) (sym r) h
+  pub here_onward : (l i : ℕ) (q : Option P) (ws : List (Bare P)) → Onward m st l i q → FromHere m st q ws → RunsFrom m st l i ws
+  here_onward l i None ws h r = subst (λ (xs : List (Bare P)). RunsFrom m st l i xs) (sym r) h
   here_onward l i (Some q) ws h r = subst (λ (o : Option Stretch). FromStretch m st o ws) h.1 r
 
   -- the run at a place, put before the runs to its right
-  pub first_given : (v : Run P) (t : Stretch) → st v.place ≡ Some t → v.about ≡ described m t → Described m (st v.place) (Some v.about) → (q : Option P) → Onward m st t.list (t.from + t.count) q → (ws : List (Run P)) → FromHere m st q ws → (o : Option P) → o ≡ Some v.place → FromHere m st o (v ∷ ws)
+  pub first_given : (v : Bare P) (t : Stretch) → st v.place ≡ Some t → v.about ≡ described m t → Described m (st v.place) (Some v.about) → (q : Option P) → Onward m st t.list (t.from + t.count) q → (ws : List (Bare P)) → FromHere m st q ws → (o : Option P) → o ≡ Some v.place → FromHere m st o (v ∷ ws)
   first_given v t e dd desc q right ws r o is =
       let rest : RunsFrom m st t.list (t.from + v.about.len) ws = subst (λ (n : ℕ). RunsFrom m st t.list (t.from + n) ws) (sym (ap (λ (x : Description). x.len) dd)) (here_onward t.list (t.from + t.count) q ws right r) in
       subst (λ (x : Option P). FromHere m st x (v ∷ ws)) (sym is) (subst (λ (x : Option Stretch). FromStretch m st x (v ∷ ws)) (sym e) ((t.count, e), desc, rest))
 
   module _ (faithful : (p q : P) (t u : Stretch) → st p ≡ Some t → st q ≡ Some u → t.list ≡ u.list → t.from ≡ u.from → p ≡ q) where
     -- the run at a place is the first of the runs from there on
-    pub first_run : (v : Run P) (t : Stretch) → st v.place ≡ Some t → v.about ≡ described m t → (q : Option P) → Onward m st t.list (t.from + t.count) q → {S : Type 0} (ahead : S → List (Run P) → Type 0) (s s' : S) → ((vs : List (Run P)) → FromHere m st q vs → ahead s' vs) → (ws : List (Run P)) → RunsFrom m st t.list t.from ws → Taken ahead s ws (Some v) s'
+    pub first_run : (v : Run P) (t : Stretch) → st v.place ≡ Some t → v.about ≡ described m t → (q : Option P) → Onward m st t.list (t.from + t.count) q → {S : Type 0} (ahead : S → List (Bare P) → Type 0) (s s' : S) → ((vs : List (Bare P)) → FromHere m st q vs → ahead s' vs) → (ws : List (Bare P)) → RunsFrom m st t.list t.from ws → Taken ahead s ws (Some v) s'
     first_run v t e dd q right ahead s s' next [] r =
         let run = settled v.place t e in
         absurd (omega (arith, run.some, run.within))
@@ -63,4 +56,4 @@ module _ {P : Type 0} (m : Meaning) (st : P → Option Stretch) (settled : (p : 
         let stretch : u ≡ t = cc in
         let whole : w.about ≡ v.about = cc in
         let count : w.about.len ≡ t.count = ap (λ (x : Description). x.len) (whole ∙ dd) in
-        (ap Some (same_run v w (sym same) (sym whole)), next ws (onward_here t.list (t.from + t.count) q ws right (subst (λ (n : ℕ). RunsFrom m st t.list (t.from + n) ws) count rest)))
+        (ap Some (same_bare (bare v) w (sym same) (sym whole)), next ws (onward_here t.list (t.from + t.count) q ws right (subst (λ (n : ℕ). RunsFrom m st t.list (t.from + n) ws) count rest)))

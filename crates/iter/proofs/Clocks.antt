@@ -5,8 +5,9 @@ use Rattle.block.specs.Units.{Meaning, Lawful, Stretch, RunOf, unit_at}
 use Rattle.reader.specs.declared.reader.Description.{Description}
 use Rattle.reader.specs.Answers.{Nearest, Later, Described}
 use Rattle.iter.specs.declared.run.Run.{Run}
+use Rattle.iter.specs.Bare.{Bare, bare}
 use Rattle.iter.specs.Runs.{Apart, ByClock, Taken}
-use Rattle.iter.proofs.Chains.{described_some, same_run}
+use Rattle.iter.proofs.Chains.{described_some, same_bare}
 
 pub same_id : (a b : Id) → a.client ≡ b.client → a.clock ≡ b.clock → a ≡ b
 same_id a b p q = ap (λ (x : ℕ). record { client = x; clock = a.clock }) p ∙ ap (λ (x : ℕ). record { client = b.client; clock = x }) q
@@ -46,11 +47,11 @@ module _ {P : Type 0} (m : Meaning) (st : P → Option Stretch) (lawful : Lawful
       apart p q t u (t.from + offset t) e f both.0 (omega arith) (omega (arith, here.inside)) (omega (arith, at)) (omega (arith, at, there.inside))
 
   -- the nearest run is the first of the client's runs from the clock on
-  pub first_by_clock : (v : Run P) → Nearest m st client clock (Some v.place) → Described m (st v.place) (Some v.about) → {S : Type 0} (ahead : S → List (Run P) → Type 0) (s s' : S) → Apart st → ((vs : List (Run P)) → ByClock m st client (v.about.id.clock + v.about.len) vs → ahead s' vs) → (ws : List (Run P)) → ByClock m st client clock ws → Taken ahead s ws (Some v) s'
+  pub first_by_clock : (v : Run P) → Nearest m st client clock (Some v.place) → Described m (st v.place) (Some v.about) → {S : Type 0} (ahead : S → List (Bare P) → Type 0) (s s' : S) → Apart st → ((vs : List (Bare P)) → ByClock m st client (v.about.id.clock + v.about.len) vs → ahead s' vs) → (ws : List (Bare P)) → ByClock m st client clock ws → Taken ahead s ws (Some v) s'
   first_by_clock v near desc ahead s s' apart next [] r = absurd (none_nearest v.place near r)
   first_by_clock v near desc ahead s s' apart next (w ∷ ws) (nearest, about, rest) =
       let same : w.place ≡ v.place = one_nearest apart w.place v.place nearest near in
       let (t, e, q) = described_some m (st v.place) v.about desc in
       let (u, f, r) = described_some m (st w.place) w.about about in
       let whole : w.about ≡ v.about = cc in
-      (ap Some (same_run v w (sym same) (sym whole)), next ws (subst (λ (x : Description). ByClock m st client (x.id.clock + x.len) ws) whole rest))
+      (ap Some (same_bare (bare v) w (sym same) (sym whole)), next ws (subst (λ (x : Description). ByClock m st client (x.id.clock + x.len) ws) whole rest))

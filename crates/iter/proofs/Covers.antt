@@ -6,7 +6,7 @@ use Rattle.block.specs.declared.ids.Id.{Id}
 use Rattle.block.specs.Units.{Meaning, Stretch, RunOf, UnitOf, unit_at, no_unit}
 use Rattle.reader.specs.declared.reader.Description.{Description}
 use Rattle.reader.specs.Answers.{described}
-use Rattle.iter.specs.declared.run.Run.{Run}
+use Rattle.iter.specs.Bare.{Bare}
 use Rattle.iter.specs.Runs.{RunsFrom}
 use Rattle.iter.specs.Between.{ids_from, run_ids, unit_ids}
 use Rattle.iter.proofs.Chains.{described_some}
@@ -24,7 +24,7 @@ module _ (m : Meaning) (t : Stretch) (run : RunOf m t) where
       ∙ ap (λ (xs : List UnitOf). unit_ids (take (suc n) xs)) (sym (drop-cons us (t.from + k) no_unit (omega (arith, run.within))))
 
 module _ {P : Type 0} (m : Meaning) (st : P → Option Stretch) (settled : (p : P) (t : Stretch) → st p ≡ Some t → RunOf m t) where
-  pub list_ids : (l i : ℕ) (ws : List (Run P)) → RunsFrom m st l i ws → run_ids ws ≡ unit_ids (drop i (m.units l))
+  pub list_ids : (l i : ℕ) (ws : List (Bare P)) → RunsFrom m st l i ws → run_ids ws ≡ unit_ids (drop i (m.units l))
   list_ids l i [] e = ap unit_ids (sym (drop_all i (m.units l) (omega arith)))
   list_ids l i (w ∷ ws) ((n, e), desc, rest) =
       let us = m.units l in

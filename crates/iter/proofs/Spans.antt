@@ -10,7 +10,7 @@ use Rattle.sticky_index.specs.declared.index.Assoc.TheVariants.{Before, After}
 use Rattle.sticky_index.specs.declared.index.IndexScope.{IndexScope}
 use Rattle.sticky_index.specs.declared.index.IndexScope.TheVariants.{Relative, Nested, Root}
 use Rattle.sticky_index.specs.declared.index.StickyIndex.{StickyIndex}
-use Rattle.iter.specs.declared.run.Run.{Run}
+use Rattle.iter.specs.Bare.{Bare}
 use Rattle.iter.specs.declared.state.RangeIterState.TheVariants.{Opened, InRange}
 use Rattle.iter.specs.Cuts.{id_in}
 use Rattle.iter.specs.Ranges.{Course, edge, met, first_in, put, part, over, broken, backwards, cut_at, cut, enter, course}
@@ -132,7 +132,7 @@ abbrev up_to : StickyIndex → List Id → List Id
 up_to end xs = up_to_mark end.assoc end.scope xs
 
 module _ {P : Type 0} where
-  part_ids : (w : Run P) (k z : ℕ) (later : Course P) → ((part w k z later).fault ≡ later.fault) × (slice_ids (part w k z later).slices ≡ ids_from w.about k (z - k) ++ slice_ids later.slices)
+  part_ids : (w : Bare P) (k z : ℕ) (later : Course P) → ((part w k z later).fault ≡ later.fault) × (slice_ids (part w k z later).slices ≡ ids_from w.about k (z - k) ++ slice_ids later.slices)
   part_ids w k z later =
       cond_both (ltb k z) (put (record { place = w.place; run = w.about; start = k; end = z - 1 }) later) later (λ c. (c.fault ≡ later.fault) × (slice_ids c.slices ≡ ids_from w.about k (z - k) ++ slice_ids later.slices))
       (λ e.
@@ -145,7 +145,7 @@ module _ {P : Type 0} where
       (refl, ap (λ (n : ℕ). ids_from w.about k n ++ slice_ids later.slices) none))
 
   -- the units up to the end, from offset k of a run on, where `rest` are the units of the runs after it
-  module _ (w : Run P) (k : ℕ) (fits : k ≤ w.about.len) (later : Course P) (rest : List Id) where
+  module _ (w : Bare P) (k : ℕ) (fits : k ≤ w.about.len) (later : Course P) (rest : List Id) where
     abbrev EndsAt : Assoc → IndexScope → Course P → Type 0
     EndsAt lean scope c = c.fault ≡ None → slice_ids c.slices ≡ up_to_mark lean scope (ids_from w.about k (w.about.len - k) ++ rest)
 
@@ -170,22 +170,22 @@ module _ {P : Type 0} where
     cut_ids lean (Nested id) ih = cut_past lean (Nested id) ih refl
     cut_ids lean (Root l) ih = cut_past lean (Root l) ih refl
 
-  whole : (w : Run P) (ws : List (Run P)) → run_ids (w ∷ ws) ≡ ids_from w.about 0 (w.about.len - 0) ++ run_ids ws
+  whole : (w : Bare P) (ws : List (Bare P)) → run_ids (w ∷ ws) ≡ ids_from w.about 0 (w.about.len - 0) ++ run_ids ws
   whole w ws = let e : w.about.len ≡ w.about.len - 0 = omega arith in ap (λ (n : ℕ). ids_from w.about 0 n ++ run_ids ws) e
 
   module _ (start end : StickyIndex) where
     -- between the marks: the units up to the end
-    pub inside_ids : (ws : List (Run P)) → (course InRange start end ws).fault ≡ None → slice_ids (course InRange start end ws).slices ≡ up_to end (run_ids ws)
+    pub inside_ids : (ws : List (Bare P)) → (course InRange start end ws).fault ≡ None → slice_ids (course InRange start end ws).slices ≡ up_to end (run_ids ws)
     inside_ids [] f = none_up_to end.assoc end.scope
     inside_ids (w ∷ ws) f = cut_ids w 0 (omega arith) (course InRange start end ws) (run_ids ws) end.assoc end.scope (inside_ids ws) f ∙ ap (up_to end) (sym (whole w ws))
 
     -- the range starts at an offset of a run
-    entered : (w : Run P) (ws : List (Run P)) (k : ℕ) (xs : List Id) → k ≤ w.about.len → xs ≡ ids_from w.about k (w.about.len - k) ++ run_ids ws → (cut w k end (course InRange start end ws)).fault ≡ None → slice_ids (cut w k end (course InRange start end ws)).slices ≡ up_to end xs
+    entered : (w : Bare P) (ws : List (Bare P)) (k : ℕ) (xs : List Id) → k ≤ w.about.len → xs ≡ ids_from w.about k (w.about.len - k) ++ run_ids ws → (cut w k end (course InRange start end ws)).fault ≡ None → slice_ids (cut w k end (course InRange start end ws)).slices ≡ up_to end xs
     entered w ws k xs fits is f =
         cut_ids w k fits (course InRange start end ws) (run_ids ws) end.assoc end.scope (inside_ids ws) f ∙ ap (up_to end) (sym is)
 
     -- what comes of a run before the range has started, where `passed` comes of the runs after it
-    enter_ids : (w : Run P) (ws : List (Run P)) (passed : Course P) (lean : Assoc) (scope : IndexScope) → (passed.fault ≡ None → slice_ids passed.slices ≡ up_to end (from_mark lean scope (run_ids ws))) → (enter (first_in w.about lean scope) w end passed (course InRange start end ws)).fault ≡ None → slice_ids (enter (first_in w.about lean scope) w end passed (course InRange start end ws)).slices ≡ up_to end (from_mark lean scope (run_ids (w ∷ ws)))
+    enter_ids : (w : Bare P) (ws : List (Bare P)) (passed : Course P) (lean : Assoc) (scope : IndexScope) → (passed.fault ≡ None → slice_ids passed.slices ≡ up_to end (from_mark lean scope (run_ids ws))) → (enter (first_in w.about lean scope) w end passed (course InRange start end ws)).fault ≡ None → slice_ids (enter (first_in w.about lean scope) w end passed (course InRange start end ws)).slices ≡ up_to end (from_mark lean scope (run_ids (w ∷ ws)))
     enter_ids w ws passed lean (Relative id) ih =
         cond_both (has_unit w.about id) (Some (offset w.about id)) None (λ o. (enter (option_map (edge lean) o) w end passed (course InRange start end ws)).fault ≡ None → slice_ids (enter (option_map (edge lean) o) w end passed (course InRange start end ws)).slices ≡ up_to end (from_unit lean id (run_ids (w ∷ ws))))
         (λ h.
@@ -197,6 +197,6 @@ module _ {P : Type 0} where
     enter_ids w ws passed lean (Nested id) ih = entered w ws 0 (run_ids (w ∷ ws)) (omega arith) (whole w ws)
     enter_ids w ws passed lean (Root l) ih = entered w ws 0 (run_ids (w ∷ ws)) (omega arith) (whole w ws)
 
-    pub opened_ids : (ws : List (Run P)) → Between start end ws (course Opened start end ws)
+    pub opened_ids : (ws : List (Bare P)) → Between start end ws (course Opened start end ws)
     opened_ids [] f = none_up_to end.assoc end.scope ∙ ap (up_to end) (none_from start.assoc start.scope)
     opened_ids (w ∷ ws) f = enter_ids w ws (course Opened start end ws) start.assoc start.scope (opened_ids ws) f

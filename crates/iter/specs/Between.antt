@@ -9,7 +9,7 @@ use Rattle.sticky_index.specs.declared.index.Assoc.TheVariants.{Before, After}
 use Rattle.sticky_index.specs.declared.index.IndexScope.{IndexScope}
 use Rattle.sticky_index.specs.declared.index.IndexScope.TheVariants.{Relative, Nested, Root}
 use Rattle.sticky_index.specs.declared.index.StickyIndex.{StickyIndex}
-use Rattle.iter.specs.declared.run.Run.{Run}
+use Rattle.iter.specs.Bare.{Bare}
 use Rattle.iter.specs.Cuts.{id_in}
 use Rattle.iter.specs.Ranges.{Piece, Course}
 
@@ -23,7 +23,7 @@ abbrev pub unit_ids : List UnitOf → List Id
 unit_ids us = map (λ u. u.id) us
 
 -- the units of runs, and of slices, in order
-abbrev pub run_ids : {P : Type 0} → List (Run P) → List Id
+abbrev pub run_ids : {P : Type 0} → List (Bare P) → List Id
 run_ids [] = []
 run_ids (w ∷ ws) = ids_from w.about 0 w.about.len ++ run_ids ws
 
@@ -61,5 +61,5 @@ up_to_mark lean (Nested id) xs = xs
 up_to_mark lean (Root l) xs = xs
 
 -- unless it is refused, a range over runs has exactly the units between its marks
-abbrev pub Between : {P : Type 0} → StickyIndex → StickyIndex → List (Run P) → Course P → Type 0
+abbrev pub Between : {P : Type 0} → StickyIndex → StickyIndex → List (Bare P) → Course P → Type 0
 Between start end ws c = c.fault ≡ None → slice_ids c.slices ≡ up_to_mark end.assoc end.scope (from_mark start.assoc start.scope (run_ids ws))

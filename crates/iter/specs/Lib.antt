@@ -1,3 +1,4 @@
+pub mod Bare
 pub mod Between
 pub mod Collects
 pub mod Cuts

@@ -13,7 +13,7 @@ use Rattle.sticky_index.specs.declared.index.Assoc.TheVariants.{Before, After}
 use Rattle.sticky_index.specs.declared.index.IndexScope.{IndexScope}
 use Rattle.sticky_index.specs.declared.index.IndexScope.TheVariants.{Relative, Nested, Root}
 use Rattle.sticky_index.specs.declared.index.StickyIndex.{StickyIndex}
-use Rattle.iter.specs.declared.run.Run.{Run}
+use Rattle.iter.specs.Bare.{Bare}
 use Rattle.iter.specs.declared.slice.ItemSlice.{ItemSlice}
 use Rattle.iter.specs.declared.state.RangeIterState.{RangeIterState}
 use Rattle.iter.specs.declared.state.RangeIterState.TheVariants.{Opened, InRange, Closed}
@@ -64,24 +64,24 @@ first_in run lean (Nested id) = Some 0
 first_in run lean (Root l) = Some 0
 
 -- the units of a run from offset k up to offset z, which is excluded, and then what comes later
-abbrev pub part : {P : Type 0} → Run P → ℕ → ℕ → Course P → Course P
+abbrev pub part : {P : Type 0} → Bare P → ℕ → ℕ → Course P → Course P
 part w k z later = cond (nat_lt k z) (put (record { place = w.place; run = w.about; start = k; end = z - 1 }) later) later
 
 -- what comes from offset k of a run on, where the end's unit and its offset in the run are given
-abbrev pub cut_at : {P : Type 0} → Run P → ℕ → Assoc → Option (Id × ℕ) → Course P → Course P
+abbrev pub cut_at : {P : Type 0} → Bare P → ℕ → Assoc → Option (Id × ℕ) → Course P → Course P
 cut_at w k lean None later = part w k w.about.len later
 cut_at w k lean (Some (id, at)) later = cond (nat_lt at k) (broken (backwards id)) (part w k (edge lean at) over)
 
-abbrev pub cut : {P : Type 0} → Run P → ℕ → StickyIndex → Course P → Course P
+abbrev pub cut : {P : Type 0} → Bare P → ℕ → StickyIndex → Course P → Course P
 cut w k end later = cut_at w k end.assoc (met w.about end.scope) later
 
 -- what comes from a run on: nothing of it before the range starts
-abbrev pub enter : {P : Type 0} → Option ℕ → Run P → StickyIndex → Course P → Course P → Course P
+abbrev pub enter : {P : Type 0} → Option ℕ → Bare P → StickyIndex → Course P → Course P → Course P
 enter None w end passed later = passed
 enter (Some k) w end passed later = cut w k end later
 
 -- what a range gives of the runs that are still to come
-abbrev pub course : {P : Type 0} → RangeIterState → StickyIndex → StickyIndex → List (Run P) → Course P
+abbrev pub course : {P : Type 0} → RangeIterState → StickyIndex → StickyIndex → List (Bare P) → Course P
 course Opened start end [] = over
 course Opened start end (w ∷ ws) = enter (first_in w.about start.assoc start.scope) w end (course Opened start end ws) (course InRange start end ws)
 course InRange start end [] = over

@@ -1,7 +1,7 @@
 ghost use Rattle.std.specs.Prelude.{◌≡◌, List};
 ghost use Rattle.iter.specs.Runs.{FromHere, RunsFrom, span_left, Opens};
 ghost use Rattle.iter.specs.Between.{run_ids, unit_ids};
-ghost use Rattle.iter.specs.declared.run.Run.{Run};
+ghost use Rattle.iter.specs.Bare.{Bare};
 
 use crate::run::Run;
 use crate::source::Source;
@@ -19,7 +19,7 @@ impl<R: Reader> ListSource<R> {
     // All the runs of a list, which have exactly the list's units. Where the list is not there, the reader comes back with its refusal.
     pub fn open(reader: R, list: u32) -> Result<ListSource<R>, (R, Fault)>
         ensures opens { Opens R.Reader.meaning R.Reader.stretch R.Reader.layers reader list result }
-        ensures units { (ws : List (Run R.Place)) → RunsFrom (R.Reader.meaning reader) (R.Reader.stretch reader) list 0 ws → run_ids ws ≡ unit_ids ((R.Reader.meaning reader).units list) }
+        ensures units { (ws : List (Bare R.Place)) → RunsFrom (R.Reader.meaning reader) (R.Reader.stretch reader) list 0 ws → run_ids ws ≡ unit_ids ((R.Reader.meaning reader).units list) }
     {
         // Both arms take the reader, so no `map` and `map_err` can stand here.
         match reader.first(list) {

@@ -1,8 +1,8 @@
 ghost use Rattle.std.specs.Prelude.{◌≡◌, List, ◌∷◌};
+ghost use Rattle.iter.specs.Bare.{Bare, bare};
 ghost use Rattle.iter.specs.Between.{Between};
 ghost use Rattle.iter.specs.Ranges.{Answers, course, cut};
 ghost use Rattle.iter.specs.Steps.{Coming, gives};
-ghost use Rattle.iter.specs.declared.run.Run.{Run};
 ghost use Rattle.iter.specs.declared.state.RangeIterState.TheVariants.{Opened, InRange};
 
 use crate::edge::{edge_at, first_offset, met_in};
@@ -28,7 +28,7 @@ impl<S: Source> RangeIter<S> {
     // between the marks.
     pub fn new(iter: S, start: StickyIndex, end: StickyIndex) -> RangeIter<S>
         ensures opened { result ≡ record { iter = iter; start = start; end = end; state = Opened } }
-        ensures between { (ws : List (Run S.Place)) → Between start end ws (gives result ws) }
+        ensures between { (ws : List (Bare S.Place)) → Between start end ws (gives result ws) }
     {
         RangeIter {
             iter,
@@ -48,7 +48,7 @@ impl<S: Source> RangeIter<S> {
     // What comes of the next run, and how far the range has come then.
     fn meet(&mut self, run: Run<S::Place>) -> Result<Option<ItemSlice<S::Place>>, Fault>
         ensures kept { self.new.iter ≡ self.old.iter }
-        ensures answers { (ws : List (Run S.Place)) → Answers (gives self.old (run ∷ ws)) result (gives self.new ws) }
+        ensures answers { (ws : List (Bare S.Place)) → Answers (gives self.old (bare run ∷ ws)) result (gives self.new ws) }
     {
         match self.state {
             RangeIterState::Opened => match first_offset(run.about, self.start) {
@@ -67,7 +67,7 @@ impl<S: Source> RangeIter<S> {
         first: u32,
     ) -> Result<Option<ItemSlice<S::Place>>, Fault>
         ensures kept { self.new.iter ≡ self.old.iter }
-        ensures answers { (ws : List (Run S.Place)) → Answers (cut run first self.old.end (course InRange self.old.start self.old.end ws)) result (gives self.new ws) }
+        ensures answers { (ws : List (Bare S.Place)) → Answers (cut (bare run) first self.old.end (course InRange self.old.start self.old.end ws)) result (gives self.new ws) }
     {
         let Some((id, offset)) = met_in(run.about, self.end) else {
             self.state = RangeIterState::InRange;

@@ -33,12 +33,13 @@ impl<P: Clone> Clone for Run<P> {
 
 impl<P: Copy> Run<P> {
     ghost use Rattle.std.specs.Prelude.{Ok};
+    ghost use Rattle.iter.specs.Bare.{bare};
     ghost use Rattle.iter.specs.Ranges.{Course, Answers, part};
 
     // The units from an offset up to another, which is excluded; none where there are none.
     pub(crate) fn part(self, first: u32, stop: u32) -> Option<ItemSlice<P>>
         requires { stop ≤ self.about.len }
-        ensures { (later : Course P) → Answers (part self first stop later) (Ok result) later }
+        ensures { (later : Course P) → Answers (part (bare self) first stop later) (Ok result) later }
     {
         if first < stop {
             Some(ItemSlice {

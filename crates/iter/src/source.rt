@@ -1,4 +1,5 @@
-ghost use Rattle.std.specs.Prelude.{ℕ, ◌<◌, List, [], IfSome};
+ghost use Rattle.std.specs.Prelude.{ℕ, ◌<◌, List, [], map, IfSome};
+ghost use Rattle.iter.specs.Bare.{Bare, bare};
 ghost use Rattle.iter.specs.Runs.{Taken, Given};
 ghost use Rattle.iter.specs.declared.run.Run.{Run};
 
@@ -10,7 +11,7 @@ pub trait Source {
     type Place: Copy;
 
     // These runs are still to come.
-    ghost ahead: { Self → List (Run Self.Place) → Type 0 };
+    ghost ahead: { Self → List (Bare Self.Place) → Type 0 };
 
     // It is certain which runs are still to come.
     ghost certain: { Self → Type 0 };
@@ -22,14 +23,14 @@ pub trait Source {
     // It is no `Iterator`: what is still to come is said by a relation, and generic code asks for it
     // through the trait's own clauses.
     fn next(&mut self) -> Option<Run<Self::Place>>
-        ensures taken { (ws : List (Run Self.Place)) → ahead self.old ws → Taken ahead self.old ws result self.new }
+        ensures taken { (ws : List (Bare Self.Place)) → ahead self.old ws → Taken ahead self.old ws result self.new }
         ensures given { Given ahead certain self.old result self.new }
         ensures nearer { IfSome result (λ _. left self.new < left self.old) };
 }
 
 // Takes all the runs that are still to come. Where it is certain which they are, there are such runs.
 pub fn exhaust<S: Source>(source: &mut S)
-    ensures { S.Source.certain source.old → ((ws : List (Run S.Place)) × S.Source.ahead source.old ws) × S.Source.ahead source.new [] }
+    ensures { S.Source.certain source.old → ((ws : List (Run S.Place)) × S.Source.ahead source.old (map bare ws)) × S.Source.ahead source.new [] }
 {
     while let Some(_run) = source.next() {}
 }
