@@ -38,10 +38,11 @@ fn has_byte(entry: EntryRecord, b: usize) -> bool
 fn entries_served(view: &View<'_>, b: usize) -> usize
     ensures { result ≡ passing (has_byte_at (held view.now) b) (length (held view.now).entries) }
 {
+    // a sum of ones: with `filter` and `count` this pass, over all entries for each byte, took half as long again
     view.entries
         .iter()
-        .filter(|entry| has_byte(**entry, b))
-        .count()
+        .map(|entry| usize::from(has_byte(*entry, b)))
+        .sum()
 }
 
 // The first byte that does not serve just one entry.

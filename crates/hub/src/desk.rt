@@ -6,7 +6,7 @@ use crate::trouble::Trouble;
 use clip::pairs::Pairs;
 use reader::reader::Reader;
 use std::alloc::Global;
-use std::collections::BTreeMap;
+use std::collections::HashMap;
 use sticky_index::index::StickyIndex;
 
 // Where questions on a document are answered: with the marks by their names, and the clips that lie on
@@ -17,7 +17,7 @@ pub(crate) struct Desk<'a, P: Print, R: Reader> {
     heap: Global,
     document: &'a R,
     lists: u32,
-    marks: BTreeMap<String, StickyIndex>,
+    marks: HashMap<String, StickyIndex>,
     clip: Option<Pairs>,
 }
 
@@ -28,7 +28,7 @@ impl<'a, P: Print, R: Reader> Desk<'a, P, R> {
             heap,
             document,
             lists,
-            marks: BTreeMap::new(heap),
+            marks: HashMap::new(heap),
             clip: None,
         }
     }
