@@ -1,4 +1,4 @@
-ghost use Rattle.std.specs.Prelude.{◌≡◌, ◌<◌, ◌≤◌, MatchResult, ⊤};
+ghost use Rattle.std.specs.Prelude.{◌≡◌, ◌<◌, ◌≤◌, length, Some, IfSome, MatchResult, ⊤};
 ghost use Rattle.block.specs.Units.{seen};
 ghost use Rattle.block.specs.Values.{face};
 ghost use Rattle.reader.specs.Answers.{Counted, faces, no_list};
@@ -65,7 +65,8 @@ pub struct ArrayIter<'r, R: Reader> {
 
 // The elements that are left, from the cursor's index on.
 impl<'r, R: Reader> Iterator for ArrayIter<'r, R> {
-    ghost use Rattle.std.specs.Iterator.{YieldsFirstBy, MakesProgress, item_count};
+    ghost use Rattle.std.specs.Iterator.{YieldsFirstBy, MakesProgress, UpTo, item_count};
+    ghost use Rattle.std.specs.Iterator.SizeHint.{IsWithinCount};
 
     type Item = Value<'r>;
 
@@ -85,7 +86,12 @@ impl<'r, R: Reader> Iterator for ArrayIter<'r, R> {
         reader.show(slot)
     }
 
-    fn size_hint(&self) -> (usize, Option<usize>) {
+    // How many elements are left, exactly.
+    fn size_hint(&self) -> (usize, Option<usize>)
+        ensures lower { IsWithinCount result.0 (item_count (values_left R.Reader.meaning) self.now) }
+        ensures upper { IfSome result.1 (UpTo (item_count (values_left R.Reader.meaning) self.now)) }
+        ensures exact { let n = length (values_left R.Reader.meaning self.now) in result ≡ (n, Some n) }
+    {
         let left = self.inner.left() as usize;
         (left, Some(left))
     }
