@@ -9,15 +9,16 @@ use std::alloc::Global;
 use std::collections::HashMap;
 use sticky_index::index::StickyIndex;
 
-// Where questions on a document are answered: with the marks by their names, and the clips that lie on
-// the document, as one.
+// Where questions on a document are answered: with the marks, under their names but for those just made,
+// and the clips that lie on the document, as one.
 #[derive(Drop)]
 pub(crate) struct Desk<'a, P: Print, R: Reader> {
     rt: &'a P,
     heap: Global,
     document: &'a R,
     lists: u32,
-    marks: HashMap<String, StickyIndex>,
+    made: Vec<(&'a str, StickyIndex)>,
+    marks: HashMap<&'a str, StickyIndex>,
     clip: Option<Pairs>,
 }
 
@@ -28,13 +29,14 @@ impl<'a, P: Print, R: Reader> Desk<'a, P, R> {
             heap,
             document,
             lists,
+            made: Vec::new(heap),
             marks: HashMap::new(heap),
             clip: None,
         }
     }
 
     // One question, on the document or on what the clips show of it.
-    pub(crate) fn ask(&mut self, line: &str) -> Result<(), Trouble> {
+    pub(crate) fn ask(&mut self, line: &'a str) -> Result<(), Trouble> {
         let (word, rest) = cut(line);
         match word {
             "kinds" => print_kinds(self.rt)?,
@@ -60,16 +62,21 @@ impl<'a, P: Print, R: Reader> Desk<'a, P, R> {
     }
 
     // One question, on the document as this reader shows it.
-    fn ask_shown<S: Reader>(&mut self, reader: &S, word: &str, text: &str) -> Result<(), Trouble> {
+    fn ask_shown<S: Reader>(
+        &mut self,
+        reader: &S,
+        word: &str,
+        text: &'a str,
+    ) -> Result<(), Trouble> {
         let shown = Shown {
             rt: self.rt,
             reader,
         };
         match word {
             "mark" => self.keep(&shown, text)?,
-            "where" => match self.marks.get(text) {
+            "where" => match self.mark(text) {
                 None => println!(self.rt; "{text}: no such mark")?,
-                Some(mark) => shown.print_where(text, *mark)?,
+                Some(mark) => shown.print_where(text, mark)?,
             },
             "steps" => self.ask_steps(&shown, text)?,
             "lists" => {
@@ -87,21 +94,38 @@ impl<'a, P: Print, R: Reader> Desk<'a, P, R> {
     }
 
     // mark NAME after|before K in LIST, or mark NAME after|before on ID
-    fn keep<S: Reader>(&mut self, shown: &Shown<'_, P, S>, text: &str) -> Result<(), Trouble> {
+    fn keep<S: Reader>(&mut self, shown: &Shown<'_, P, S>, text: &'a str) -> Result<(), Trouble> {
         let (name, text) = cut(text);
         if let Some(mark) = shown.mark(name, text)? {
-            self.marks.insert(String::from_str(self.heap, name)?, mark)?;
+            self.made.push((name, mark))?;
         }
         Ok(())
     }
 
+    // The mark of a name, the one made last. Those made since one was last asked for go under their
+    // names first, all at once: until then a line `mark` takes no search. Where memory is too short for
+    // that, they are searched.
+    fn mark(&mut self, name: &str) -> Option<StickyIndex> {
+        let made = self.made.as_slice();
+        if self.marks.extend(made.iter().copied()).is_ok() {
+            self.made.clear();
+        }
+        let late = self
+            .made
+            .as_slice()
+            .iter()
+            .rev()
+            .find(|made| made.0 == name);
+        late.map(|made| made.1).or(self.marks.get(name).copied())
+    }
+
     // steps NAME COUNT
-    fn ask_steps<S: Reader>(&self, shown: &Shown<'_, P, S>, text: &str) -> Result<(), Trouble> {
+    fn ask_steps<S: Reader>(&mut self, shown: &Shown<'_, P, S>, text: &str) -> Result<(), Trouble> {
         let (name, count) = cut(text);
         let count = parse::number(count, "steps NAME COUNT")?;
-        match self.marks.get(name) {
+        match self.mark(name) {
             None => println!(self.rt; "{name}: no such mark")?,
-            Some(mark) => shown.print_following(name, *mark, count)?,
+            Some(mark) => shown.print_following(name, mark, count)?,
         }
         Ok(())
     }

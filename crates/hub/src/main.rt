@@ -40,10 +40,10 @@ fn told(rt: &impl Print, heap: Global, lines: &[String]) -> io::Result<Option<St
 }
 
 // Answers the questions among the lines, one after the other.
-fn answer<P: Print, R: Reader>(
+fn answer<'a, P: Print, R: Reader>(
     rt: &P,
-    mut desk: Desk<'_, P, R>,
-    lines: &[String],
+    mut desk: Desk<'a, P, R>,
+    lines: &'a [String],
 ) -> io::Result<()> {
     for (number, line) in (1u64..).zip(lines) {
         let text = line.as_str().trim();
