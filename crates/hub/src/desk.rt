@@ -108,7 +108,7 @@ impl<'a, P: Print, R: Reader> Desk<'a, P, R> {
     fn mark(&mut self, name: &str) -> Option<StickyIndex> {
         let made = self.made.as_slice();
         if self.marks.extend(made.iter().copied()).is_ok() {
-            self.made.clear();
+            self.made = Vec::new(self.heap);
         }
         let late = self
             .made
